@@ -2,7 +2,7 @@
 use Rattle.std.proofs.Common.{◌≡◌, ℕ, false, List, [], map, drop, Option, None, Some, IfOk, IfSome, IsSome, Result, Ok, Err, refl, sym, ap, subst, ◌∙◌}
 use Rattle.std.specs.Str.{bytes_eq}
 use Rattle.sccs_base.specs.Cut.{text_of}
-use Rattle.sccs_base.specs.Name.{IsSfile, p_file, q_file, x_file, y_file, z_file}
+use Rattle.sccs_base.specs.Name.{IsSFileName, p_file, q_file, x_file, y_file, z_file}
 use Rattle.sccs_base.proofs.Gifts.{gives_none, some_none}
 use Rattle.sccs_disk.specs.Calls.{IsThere}
 use Rattle.sccs_disk.specs.Files.{Content, View, put}
@@ -33,10 +33,10 @@ use Rattle.sccs_admin.specs.declared.finding.NewTexts.{NewTexts}
 use Rattle.sccs_admin.specs.declared.rules.NewRules.{NewRules}
 
 -- the s-file as it was before the lock
-pub s_unlocked : (n : List ℕ) (v : View) → IsSfile n → unlocked n v n ≡ v n
+pub s_unlocked : (n : List ℕ) (v : View) → IsSFileName n → unlocked n v n ≡ v n
 s_unlocked n v sfile = put_other v (z_file n) n None (from_s_z n sfile)
   where
-    from_s_z : (n : List ℕ) → IsSfile n → bytes_eq (z_file n) n ≡ false
+    from_s_z : (n : List ℕ) → IsSFileName n → bytes_eq (z_file n) n ≡ false
     from_s_z n sfile = from_s 122 n sfile refl
 
 -- the step, from the texts that were found
@@ -52,14 +52,14 @@ unfolding admin_outcome
 refused_outcome words stamp n i named f refusal is = rw is refl
 
 -- what was found, as the step sees it
-as_seen : (words : AdminWords) (i n : List ℕ) (v : View) (r : Result NewTexts Refusal) → IsSfile n → found_texts words i (map (unlocked n v) (named_in words)) (v n) ≡ r → found_texts words i (map (unlocked n v) (named_in words)) (look (unlocked n v) n).s ≡ r
+as_seen : (words : AdminWords) (i n : List ℕ) (v : View) (r : Result NewTexts Refusal) → IsSFileName n → found_texts words i (map (unlocked n v) (named_in words)) (v n) ≡ r → found_texts words i (map (unlocked n v) (named_in words)) (look (unlocked n v) n).s ≡ r
 as_seen words i n v r sfile is = ap (λ (o : Option Content). found_texts words i (map (unlocked n v) (named_in words)) o) (s_unlocked n v sfile) ∙ is
 
 pub unmade : (n text : List ℕ) (v : View) (o2 : Option View) (out err : Option (List ℕ)) → Moves (bytes_eq (x_file n)) (λ u. u) (Some v) o2 → IsUnmade n text (world (Some v) out err) (world o2 out err)
 unmade n text v o2 out err moves = record { view = moves_wider (bytes_eq (x_file n)) (is_working n) (Some v) o2 (no_x n) moves; out = some_none out text }
 
 -- the texts weren't found
-not_found : (words : AdminWords) (stamp : Stamp) (fault : StepFault) (n i : List ℕ) (v : View) (out err : Option (List ℕ)) → IsSfile n → AnswersTexts (found_texts words i (map (unlocked n v) (named_in words)) (v n)) (Err fault)
+not_found : (words : AdminWords) (stamp : Stamp) (fault : StepFault) (n i : List ℕ) (v : View) (out err : Option (List ℕ)) → IsSFileName n → AnswersTexts (found_texts words i (map (unlocked n v) (named_in words)) (v n)) (Err fault)
     → Prepares (Err fault) n (admin_outcome words stamp n i (map (unlocked n v) (named_in words)) (look (unlocked n v) n)) (world (Some v) out err) (world (Some v) out err)
 not_found words stamp (Refused refusal) n i v out err sfile answers =
     (refused_outcome words stamp n i _ (look (unlocked n v) n) refusal (as_seen words i n v (Err refusal) sfile answers), unmade n [] v (Some v) out err (λ k h. refl))
@@ -68,7 +68,7 @@ not_found words stamp ReadFault n i v out err sfile answers = unmade n _ v (Some
 not_found words stamp WriteFault n i v out err sfile answers = unmade n _ v (Some v) out err (λ k h. refl)
 not_found words stamp DiskFault n i v out err sfile answers = unmade n _ v (Some v) out err (λ k h. refl)
 
-pub find_fails : (words : AdminWords) (stamp : Stamp) (fault : StepFault) (n : List ℕ) (left : Option (List ℕ)) (o o2 : Option View) (out err : Option (List ℕ)) → IsSfile n → o2 ≡ o → FindsTexts words (Err fault) n left o
+pub find_fails : (words : AdminWords) (stamp : Stamp) (fault : StepFault) (n : List ℕ) (left : Option (List ℕ)) (o o2 : Option View) (out err : Option (List ℕ)) → IsSFileName n → o2 ≡ o → FindsTexts words (Err fault) n left o
     → PreparesChange (admin_change words stamp) (Err fault) n left (world o out err) (world o2 out err)
 find_fails words stamp fault n left None o2 out err sfile same finds = tt
 find_fails words stamp fault n left (Some v) o2 out err sfile same finds = λ i heard.
@@ -80,7 +80,7 @@ find_fails words stamp fault n left (Some v) o2 out err sfile same finds = λ i 
 abbrev pub files_of : Option Content → Option Content → Option Content → Option Content → Option Files
 files_of s p g l = Some (record { s = s; p = p; z = None; g = g; l = l })
 
-pub new_files : (n : List ℕ) (c : Content) (v : View) (p : Prepared) → IsSfile n → IsNewSfile p
+pub new_files : (n : List ℕ) (c : Content) (v : View) (p : Prepared) → IsSFileName n → IsNewSfile p
     → files_of (Some c) (unlocked n v (p_file n)) (unlocked n v (drop 2 n)) (unlocked n v (l_file n)) ≡ Some (files_after n (plan_of p) (put v (x_file n) (Some c)))
 new_files n c v p sfile new =
     ap (λ (o : Option Content). files_of (Some c) o (unlocked n v (drop 2 n)) (unlocked n v (l_file n))) (put_other v (z_file n) (p_file n) None refl ∙ sym (put_other v (x_file n) (p_file n) (Some c) refl))
@@ -100,7 +100,7 @@ made_outcome words stamp f texts rules is = ap (λ (r : Result NewRules Refusal)
 bad_outcome : (words : AdminWords) (stamp : Stamp) (f : Files) (texts : NewTexts) (refusal : Refusal) → new_rules words texts ≡ Err refusal → from_texts words stamp f texts ≡ Err refusal
 bad_outcome words stamp f texts refusal is = ap (λ (r : Result NewRules Refusal). r >>= λ rules. makes (new_content words stamp rules (text_of texts.text)) f) is
 
-text_prepared : (words : AdminWords) (stamp : Stamp) (r : Result Prepared StepFault) (texts : NewTexts) (n i : List ℕ) (v : View) (o2 : Option View) (out err : Option (List ℕ)) → IsSfile n → found_texts words i (map (unlocked n v) (named_in words)) (v n) ≡ Ok texts → WritesTexts r words stamp texts n (Some v) o2
+text_prepared : (words : AdminWords) (stamp : Stamp) (r : Result Prepared StepFault) (texts : NewTexts) (n i : List ℕ) (v : View) (o2 : Option View) (out err : Option (List ℕ)) → IsSFileName n → found_texts words i (map (unlocked n v) (named_in words)) (v n) ≡ Ok texts → WritesTexts r words stamp texts n (Some v) o2
     → Prepares r n (admin_outcome words stamp n i (map (unlocked n v) (named_in words)) (look (unlocked n v) n)) (world (Some v) out err) (world o2 out err)
 text_prepared words stamp (Ok p) texts n i v o2 out err sfile found writes =
     let f : Files = look (unlocked n v) n in
@@ -125,7 +125,7 @@ text_prepared words stamp (Err ReadFault) texts n i v o2 out err sfile found wri
 text_prepared words stamp (Err WriteFault) texts n i v o2 out err sfile found writes = unmade n _ v o2 out err writes
 text_prepared words stamp (Err DiskFault) texts n i v o2 out err sfile found writes = unmade n _ v o2 out err writes
 
-pub found_prepares : (words : AdminWords) (stamp : Stamp) (r : Result Prepared StepFault) (texts : NewTexts) (n : List ℕ) (left : Option (List ℕ)) (o o1 o2 : Option View) (out err : Option (List ℕ)) → IsSfile n → o1 ≡ o → FindsTexts words (Ok texts) n left o → WritesTexts r words stamp texts n o1 o2
+pub found_prepares : (words : AdminWords) (stamp : Stamp) (r : Result Prepared StepFault) (texts : NewTexts) (n : List ℕ) (left : Option (List ℕ)) (o o1 o2 : Option View) (out err : Option (List ℕ)) → IsSFileName n → o1 ≡ o → FindsTexts words (Ok texts) n left o → WritesTexts r words stamp texts n o1 o2
     → PreparesChange (admin_change words stamp) r n left (world o out err) (world o2 out err)
 found_prepares words stamp r texts n left None o1 o2 out err sfile same finds writes = tt
 found_prepares words stamp r texts n left (Some v) o1 o2 out err sfile same finds writes = λ i heard.

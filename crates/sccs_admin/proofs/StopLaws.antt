@@ -1,7 +1,7 @@
 -- What a stop leaves of a new s-file: what its step asks of recovery.
 use Rattle.std.proofs.Common.{◌≡◌, ℕ, List, Option, None, Some, IfOk, IfSome, Result, Ok, Err, refl, sym, ap, subst, ◌∙◌}
 use Rattle.sccs_base.specs.Cut.{text_of}
-use Rattle.sccs_base.specs.Name.{IsSfile, p_file, q_file, x_file}
+use Rattle.sccs_base.specs.Name.{IsSFileName, p_file, q_file, x_file}
 use Rattle.sccs_disk.specs.Files.{Content, View, put}
 use Rattle.sccs_disk.specs.Images.{IsFirm}
 use Rattle.sccs_disk.specs.Told.{Told, seen}
@@ -58,13 +58,13 @@ settled_at n p u new fresh paired =
       λ gone. same ∙ none,
     )
 
-pub settled_seen : (n : List ℕ) (p : Prepared) (x : Content) (a b : Option View) → IsSfile n → IsNewSfile p → IfSome a (λ v. v n ≡ None) → Becomes (λ v. put v (x_file n) (Some x)) a b → IfSome b (λ v. IsPaired n v → IsSound n v → KeepsEntries n (plan_of p) v × ArePaired (files_after n (plan_of p) v).s (files_after n (plan_of p) v).p)
+pub settled_seen : (n : List ℕ) (p : Prepared) (x : Content) (a b : Option View) → IsSFileName n → IsNewSfile p → IfSome a (λ v. v n ≡ None) → Becomes (λ v. put v (x_file n) (Some x)) a b → IfSome b (λ v. IsPaired n v → IsSound n v → KeepsEntries n (plan_of p) v × ArePaired (files_after n (plan_of p) v).s (files_after n (plan_of p) v).p)
 settled_seen n p x None b sfile new fresh is = subst (λ (o : Option View). IfSome o (λ v. IsPaired n v → IsSound n v → KeepsEntries n (plan_of p) v × ArePaired (files_after n (plan_of p) v).s (files_after n (plan_of p) v).p)) (sym is) tt
 settled_seen n p x (Some v) b sfile new fresh is =
     subst (λ (o : Option View). IfSome o (λ v. IsPaired n v → IsSound n v → KeepsEntries n (plan_of p) v × ArePaired (files_after n (plan_of p) v).s (files_after n (plan_of p) v).p)) (sym is)
     (λ paired sound. settled_at n p (put v (x_file n) (Some x)) new (put_other v (x_file n) n (Some x) (from_s 120 n sfile refl) ∙ fresh) paired)
 
-pub text_settles : (words : AdminWords) (stamp : Stamp) (r : Result Prepared StepFault) (texts : NewTexts) (n : List ℕ) (o : Option View) (a b : Told) → IsSfile n → seen a ≡ o → IfSome o (λ v. v n ≡ None) → WritesTexts r words stamp texts n (seen a) (seen b) → IfOk r (λ p. SettlesEntries n p b)
+pub text_settles : (words : AdminWords) (stamp : Stamp) (r : Result Prepared StepFault) (texts : NewTexts) (n : List ℕ) (o : Option View) (a b : Told) → IsSFileName n → seen a ≡ o → IfSome o (λ v. v n ≡ None) → WritesTexts r words stamp texts n (seen a) (seen b) → IfOk r (λ p. SettlesEntries n p b)
 text_settles words stamp (Ok p) texts n o a b sfile same fresh writes =
     settled_seen n p (new_content words stamp writes.1.0 (text_of texts.text)) (seen a) (seen b) sfile writes.0 (subst (λ (x : Option View). IfSome x (λ v. v n ≡ None)) (sym same) fresh) writes.1.2
 text_settles words stamp (Err fault) texts n o a b sfile same fresh writes = tt

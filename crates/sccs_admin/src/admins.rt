@@ -1,5 +1,5 @@
 ghost use Rattle.std.specs.Prelude.{◌≡◌, ◌≢◌, ◌≤◌, Err, IfOk};
-ghost use Rattle.sccs_base.specs.Name.{IsSfile, x_file};
+ghost use Rattle.sccs_base.specs.Name.{IsSFileName, x_file};
 ghost use Rattle.std.specs.Str.{bytes_eq};
 ghost use Rattle.sccs_base.specs.Stream.{Rose};
 ghost use Rattle.sccs_disk.specs.Told.{seen};
@@ -57,7 +57,7 @@ fn write_texts<D: Disk>(
     name: &Name,
     disk: &mut D,
 ) -> Result<Prepared, StepFault>
-    requires sfile { IsSfile name.now }
+    requires sfile { IsSFileName name.now }
     requires valid { AreAdminValues words.now stamp.now }
     requires bound { AreShort texts.now }
     ensures writes { WritesTexts result words.now stamp.now texts.now name.now (seen (D.told disk.old)) (seen (D.told disk.new)) }

@@ -1,7 +1,7 @@
 ghost use Rattle.std.specs.Prelude.{◌≡◌, ◌≢◌, ◌≤◌, ℕ, List, Some, length, Err, None, false, IfOk, IfSome, IsErrOf, OnOk};
 ghost use Rattle.std.specs.Str.{bytes_eq};
 ghost use Rattle.sccs_base.specs.Constants.{file_limit};
-ghost use Rattle.sccs_base.specs.Name.{IsSfile, z_file};
+ghost use Rattle.sccs_base.specs.Name.{IsSFileName, z_file};
 ghost use Rattle.sccs_base.specs.Stream.{Rose};
 ghost use Rattle.sccs_disk.specs.Told.{seen};
 ghost use Rattle.sccs_sid.specs.declared.refusals.StepFault.TheVariants as fault;
@@ -72,7 +72,7 @@ fn check_fresh<D: Disk>(name: &Name, disk: &mut D) -> Result<(), StepFault>
 
 // whether a file is the z-file of a name
 fn is_lock(file: &Name, name: &Name) -> bool
-    requires { IsSfile name.now }
+    requires { IsSFileName name.now }
     ensures { result ≡ bytes_eq (z_file name.now) file.now }
 {
     name.sibling(b'z').is(file)
@@ -85,7 +85,7 @@ pub fn read_named<D: Disk>(
     name: &Name,
     disk: &mut D,
 ) -> Result<Bytes, WholeFault>
-    requires { IsSfile name.now }
+    requires { IsSFileName name.now }
     ensures reads { ReadsNamed result file.now name.now (seen (D.told disk.old)) }
     ensures bound { IfOk result (λ text. length text ≤ file_limit) }
     ensures same { D.told disk.new ≡ D.told disk.old }
@@ -104,7 +104,7 @@ fn named_file<D: Disk>(
     name: &Name,
     disk: &mut D,
 ) -> Result<Found, StepFault>
-    requires { IsSfile name.now }
+    requires { IsSFileName name.now }
     ensures finds { FindsNamed result (given.From file.now) name.now (seen (D.told disk.old)) }
     ensures bound { IfOk result IsShort }
     ensures checks { RefusesWithin admin_checks result }
@@ -126,7 +126,7 @@ fn named_text<D: Disk>(
     name: &Name,
     disk: &mut D,
 ) -> Result<Found, StepFault>
-    requires { IsSfile name.now }
+    requires { IsSFileName name.now }
     ensures finds { FindsNamed result given name.now (seen (D.told disk.old)) }
     ensures bound { IfOk result IsShort }
     ensures checks { RefusesWithin admin_checks result }
@@ -189,7 +189,7 @@ pub fn find_texts<I: Source, D: Disk>(
     input: &mut I,
     disk: &mut D,
 ) -> Result<NewTexts, StepFault>
-    requires { IsSfile name.now }
+    requires { IsSFileName name.now }
     ensures finds { FindsTexts words.now result name.now (I.left input.old) (seen (D.told disk.old)) }
     ensures free { OnOk result (IfSome (seen (D.told disk.old)) (λ v. v name.now ≡ None)) }
     ensures bound { IfOk result AreShort }

@@ -1,7 +1,7 @@
 -- What cdc prepares, from its two parts.
 use Rattle.std.proofs.Common.{◌≡◌, ℕ, false, List, [], Option, None, Some, IfOk, IfSome, Result, Ok, Err, refl, sym, ap, subst, ◌∙◌}
 use Rattle.std.specs.Str.{bytes_eq}
-use Rattle.sccs_base.specs.Name.{IsSfile, x_file}
+use Rattle.sccs_base.specs.Name.{IsSFileName, x_file}
 use Rattle.sccs_base.proofs.Gifts.{gives_none}
 use Rattle.sccs_disk.specs.Files.{Content, View}
 use Rattle.sccs_disk.specs.Told.{Told, seen}
@@ -60,13 +60,13 @@ pub outcome_is : (words : CdcWords) (stamp : Stamp) (n i : List ℕ) (named : Li
 unfolding cdc_outcome
 outcome_is words stamp n i named f = refl
 
-outcome_seen : (words : CdcWords) (stamp : Stamp) (n i : List ℕ) (named : List (Option Content)) (v : View) (r : Result Parsed Refusal) → IsSfile n → checked_file (v n) ≡ r → cdc_outcome words stamp n i named (files_at n v) ≡ from_file words stamp (files_at n v) r
+outcome_seen : (words : CdcWords) (stamp : Stamp) (n i : List ℕ) (named : List (Option Content)) (v : View) (r : Result Parsed Refusal) → IsSFileName n → checked_file (v n) ≡ r → cdc_outcome words stamp n i named (files_at n v) ≡ from_file words stamp (files_at n v) r
 outcome_seen words stamp n i named v r sfile is =
     outcome_is words stamp n i named (files_at n v) ∙ ap (from_file words stamp (files_at n v)) (ap (λ (o : Option Content). checked_file o) (s_unlocked n v sfile) ∙ is)
 
 -- ---- nothing was read
 
-not_read : (words : CdcWords) (stamp : Stamp) (fault : StepFault) (n i : List ℕ) (v : View) (out err : Option (List ℕ)) → IsSfile n → ReadsSfile n v (Err fault)
+not_read : (words : CdcWords) (stamp : Stamp) (fault : StepFault) (n i : List ℕ) (v : View) (out err : Option (List ℕ)) → IsSFileName n → ReadsSfile n v (Err fault)
     → Prepares (Err fault) n (cdc_outcome words stamp n i [] (files_at n v)) (world (Some v) out err) (world (Some v) out err)
 not_read words stamp (Refused refusal) n i v out err sfile reads =
     (outcome_seen words stamp n i [] v (Err refusal) sfile reads, unmade n [] v (Some v) out err (λ k h. refl))
@@ -75,7 +75,7 @@ not_read words stamp ReadFault n i v out err sfile reads = absurd reads
 not_read words stamp WriteFault n i v out err sfile reads = absurd reads
 not_read words stamp DiskFault n i v out err sfile reads = unmade n _ v (Some v) out err (λ k h. refl)
 
-pub read_fails : (words : CdcWords) (stamp : Stamp) (fault : StepFault) (n : List ℕ) (left : Option (List ℕ)) (o o2 : Option View) (out err : Option (List ℕ)) → IsSfile n → o2 ≡ o → IfSome o (λ (v : View). ReadsSfile n v (Err fault))
+pub read_fails : (words : CdcWords) (stamp : Stamp) (fault : StepFault) (n : List ℕ) (left : Option (List ℕ)) (o o2 : Option View) (out err : Option (List ℕ)) → IsSFileName n → o2 ≡ o → IfSome o (λ (v : View). ReadsSfile n v (Err fault))
     → PreparesChange (cdc_change words stamp) (Err fault) n left (world o out err) (world o2 out err)
 read_fails words stamp fault n left None o2 out err sfile same reads = tt
 read_fails words stamp fault n left (Some v) o2 out err sfile same reads = λ i heard.
@@ -125,11 +125,11 @@ made_at words stamp n v front r a new here reads writes =
 
 -- ---- the x-file is written
 
-made_outcome : (words : CdcWords) (stamp : Stamp) (n i : List ℕ) (v : View) (front : Front) (made : Result Header Refusal) → IsSfile n → (reads : ReadsSfile n v (Ok front)) → changed_header words stamp reads.0.header ≡ made
+made_outcome : (words : CdcWords) (stamp : Stamp) (n i : List ℕ) (v : View) (front : Front) (made : Result Header Refusal) → IsSFileName n → (reads : ReadsSfile n v (Ok front)) → changed_header words stamp reads.0.header ≡ made
     → cdc_outcome words stamp n i [] (files_at n v) ≡ from_header reads.0.items (files_at n v) made
 made_outcome words stamp n i v front made sfile reads is = outcome_seen words stamp n i [] v (Ok reads.0) sfile reads.2 ∙ ap (from_header reads.0.items (files_at n v)) is
 
-prepared_at : (words : CdcWords) (stamp : Stamp) (r : Result Prepared StepFault) (n i : List ℕ) (v : View) (front : Front) (o2 : Option View) (out err : Option (List ℕ)) → IsSfile n → (reads : ReadsSfile n v (Ok front)) → IfOk r IsNewSfile → Moves (bytes_eq (x_file n)) (λ u. u) (Some v) o2
+prepared_at : (words : CdcWords) (stamp : Stamp) (r : Result Prepared StepFault) (n i : List ℕ) (v : View) (front : Front) (o2 : Option View) (out err : Option (List ℕ)) → IsSFileName n → (reads : ReadsSfile n v (Ok front)) → IfOk r IsNewSfile → Moves (bytes_eq (x_file n)) (λ u. u) (Some v) o2
     → Alters r (changed_header words stamp reads.0.header) reads.0.items n (Some v) o2
     → Prepares r n (cdc_outcome words stamp n i [] (files_at n v)) (world (Some v) out err) (world o2 out err)
 prepared_at words stamp (Ok p) n i v front o2 out err sfile reads is_new moves alters =
@@ -153,7 +153,7 @@ prepared_at words stamp (Err ReadFault) n i v front o2 out err sfile reads is_ne
 prepared_at words stamp (Err WriteFault) n i v front o2 out err sfile reads is_new moves alters = absurd alters
 prepared_at words stamp (Err DiskFault) n i v front o2 out err sfile reads is_new moves alters = unmade n _ v o2 out err moves
 
-pub read_prepares : (words : CdcWords) (stamp : Stamp) (r : Result Prepared StepFault) (n : List ℕ) (left : Option (List ℕ)) (front : Front) (o : Option View) (a b : Told) (out err : Option (List ℕ)) → IsSfile n → seen a ≡ o → IfSome o (λ (v : View). ReadsSfile n v (Ok front)) → IfOk r IsNewSfile
+pub read_prepares : (words : CdcWords) (stamp : Stamp) (r : Result Prepared StepFault) (n : List ℕ) (left : Option (List ℕ)) (front : Front) (o : Option View) (a b : Told) (out err : Option (List ℕ)) → IsSFileName n → seen a ≡ o → IfSome o (λ (v : View). ReadsSfile n v (Ok front)) → IfOk r IsNewSfile
     → Moves (bytes_eq (x_file n)) (λ u. u) (seen a) (seen b) → Writes words stamp n front r a (seen b) → PreparesChange (cdc_change words stamp) r n left (world o out err) (world (seen b) out err)
 read_prepares words stamp r n left front None a b out err sfile here reads is_new moves writes = tt
 read_prepares words stamp r n left front (Some v) a b out err sfile here reads is_new moves writes = λ i heard.
@@ -171,7 +171,7 @@ read_speaks (Err DiskFault) is_new within = tt
 
 -- ---- entries
 
-pub read_settles : (words : CdcWords) (stamp : Stamp) (r : Result Prepared StepFault) (n : List ℕ) (front : Front) (o : Option View) (a b : Told) → IsSfile n → seen a ≡ o → IsHeader front.header → IsSpelled front.header → IfSome o (λ (v : View). ReadsSfile n v (Ok front)) → IfOk r IsNewSfile → IfOk r (λ p. HasLines words stamp)
+pub read_settles : (words : CdcWords) (stamp : Stamp) (r : Result Prepared StepFault) (n : List ℕ) (front : Front) (o : Option View) (a b : Told) → IsSFileName n → seen a ≡ o → IsHeader front.header → IsSpelled front.header → IfSome o (λ (v : View). ReadsSfile n v (Ok front)) → IfOk r IsNewSfile → IfOk r (λ p. HasLines words stamp)
     → Moves (bytes_eq (x_file n)) (λ u. u) (seen a) (seen b) → Writes words stamp n front r a (seen b) → IfOk r (λ p. SettlesEntries n p b)
 read_settles words stamp (Err fault) n front o a b sfile here rules spelled reads is_new lines moves writes = tt
 read_settles words stamp (Ok p) n front None a b sfile here rules spelled reads is_new lines moves writes = settles_none n p a b here moves

@@ -2,7 +2,7 @@
 use Rattle.std.proofs.Common.{◌≡◌, ℕ, List, [], ◌∷◌, Option, None, Some, IfOk, IfSome, Result, Ok, Err, refl, sym, ap, subst, ◌∙◌, cond, not, ◌||◌}
 use Rattle.std.specs.Prelude.{if◌then◌else◌}
 use Rattle.std.specs.List.{AllByRecursion, list_any}
-use Rattle.sccs_base.specs.Name.{IsSfile, p_file, x_file}
+use Rattle.sccs_base.specs.Name.{IsSFileName, p_file, x_file}
 use Rattle.sccs_disk.specs.Files.{Content, View, put}
 use Rattle.sccs_disk.specs.Told.{Told, seen}
 use Rattle.sccs_disk.proofs.Puts.{put_other, put_same}
@@ -81,7 +81,7 @@ same_recovery a b (Some p) records others a_is b_is same =
     ∙ (recovered_same records others same (edits_of p.bytes) p ∙ ap (λ (t : Option (List Record)). recovered_by t (edits_of p.bytes) p) (sym b_is))
 
 -- where the x-file has the changed header over the items of the s-file
-pub changed_settles : (words : CdcWords) (stamp : Stamp) (n : List ℕ) (header new : Header) (items : List Item) (p : Prepared) (v : View) (old : Content) (b : Told) → IsSfile n → IsNewSfile p → HasLines words stamp → v n ≡ Some old → IsHeader header → IsSpelled header
+pub changed_settles : (words : CdcWords) (stamp : Stamp) (n : List ℕ) (header new : Header) (items : List Item) (p : Prepared) (v : View) (old : Content) (b : Told) → IsSFileName n → IsNewSfile p → HasLines words stamp → v n ≡ Some old → IsHeader header → IsSpelled header
     → IsSFile old.bytes header items → changed_header words stamp header ≡ Ok new → Becomes (λ w. put w (x_file n) (Some (sealed new items))) (Some v) (seen b) → SettlesEntries n p b
 changed_settles words stamp n header new items p v old b sfile is_new lines s rules spelled whole is becomes =
     subst (λ (o : Option View). IfSome o (λ u. IsPaired n u → IsSound n u → KeepsEntries n (plan_of p) u × ArePaired (files_after n (plan_of p) u).s (files_after n (plan_of p) u).p)) (sym becomes)

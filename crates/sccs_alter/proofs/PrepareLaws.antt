@@ -1,7 +1,7 @@
 -- What admin prepares of an s-file that is there, from its two parts.
 use Rattle.std.proofs.Common.{◌≡◌, ℕ, Bool, List, [], map, Option, None, Some, IfOk, IfSome, Result, Ok, Err, refl, sym, ap, subst, ◌∙◌}
 use Rattle.std.specs.Str.{bytes_eq}
-use Rattle.sccs_base.specs.Name.{IsSfile, x_file}
+use Rattle.sccs_base.specs.Name.{IsSFileName, x_file}
 use Rattle.sccs_base.proofs.Gifts.{gives_none}
 use Rattle.sccs_disk.specs.Files.{Content, View}
 use Rattle.sccs_disk.specs.Told.{Told, seen}
@@ -70,12 +70,12 @@ unfolding alter_outcome
 refused_outcome words n i named f refusal is = rw is refl
 
 -- what was read, as the step sees it
-as_seen : (words : AdminWords) (n : List ℕ) (v : View) (r : Result WasRead Refusal) → IsSfile n → read_file words (named_at words n v) (v n) ≡ r → read_file words (named_at words n v) (look (unlocked n v) n).s ≡ r
+as_seen : (words : AdminWords) (n : List ℕ) (v : View) (r : Result WasRead Refusal) → IsSFileName n → read_file words (named_at words n v) (v n) ≡ r → read_file words (named_at words n v) (look (unlocked n v) n).s ≡ r
 as_seen words n v r sfile is = ap (λ (o : Option Content). read_file words (named_at words n v) o) (s_unlocked n v sfile) ∙ is
 
 -- ---- nothing was read
 
-not_read : (words : AdminWords) (fault : StepFault) (n i : List ℕ) (v : View) (out err : Option (List ℕ)) → IsSfile n → ReadsAt words n v (Err fault)
+not_read : (words : AdminWords) (fault : StepFault) (n i : List ℕ) (v : View) (out err : Option (List ℕ)) → IsSFileName n → ReadsAt words n v (Err fault)
     → Prepares (Err fault) n (alter_outcome words n i (named_at words n v) (look (unlocked n v) n)) (world (Some v) out err) (world (Some v) out err)
 not_read words (Refused refusal) n i v out err sfile reads =
     (refused_outcome words n i _ (look (unlocked n v) n) refusal (as_seen words n v (Err refusal) sfile reads), unmade n [] v (Some v) out err (λ k h. refl))
@@ -84,7 +84,7 @@ not_read words ReadFault n i v out err sfile reads = absurd reads
 not_read words WriteFault n i v out err sfile reads = absurd reads
 not_read words DiskFault n i v out err sfile reads = unmade n _ v (Some v) out err (λ k h. refl)
 
-pub read_fails : (words : AdminWords) (fault : StepFault) (n : List ℕ) (left : Option (List ℕ)) (o o2 : Option View) (out err : Option (List ℕ)) → IsSfile n → o2 ≡ o → IfSome o (λ v. ReadsAt words n v (Err fault))
+pub read_fails : (words : AdminWords) (fault : StepFault) (n : List ℕ) (left : Option (List ℕ)) (o o2 : Option View) (out err : Option (List ℕ)) → IsSFileName n → o2 ≡ o → IfSome o (λ v. ReadsAt words n v (Err fault))
     → PreparesChange (alter_change words) (Err fault) n left (world o out err) (world o2 out err)
 read_fails words fault n left None o2 out err sfile same reads = tt
 read_fails words fault n left (Some v) o2 out err sfile same reads = λ i heard.
@@ -147,7 +147,7 @@ made_at words n v x r a new here placed reads writes =
 
 -- ---- the x-file is written
 
-prepared_at : (words : AdminWords) (r : Result Prepared StepFault) (n i : List ℕ) (v : View) (x : Read) (o2 : Option View) (out err : Option (List ℕ)) → IsSfile n → (reads : ReadsAt words n v (Ok x)) → IfOk r IsNewSfile → Moves (bytes_eq (x_file n)) (λ u. u) (Some v) o2
+prepared_at : (words : AdminWords) (r : Result Prepared StepFault) (n i : List ℕ) (v : View) (x : Read) (o2 : Option View) (out err : Option (List ℕ)) → IsSFileName n → (reads : ReadsAt words n v (Ok x)) → IfOk r IsNewSfile → Moves (bytes_eq (x_file n)) (λ u. u) (Some v) o2
     → Alters r (altered_header words reads.0.header x.text) reads.0.items n (Some v) o2
     → Prepares r n (alter_outcome words n i (named_at words n v) (look (unlocked n v) n)) (world (Some v) out err) (world o2 out err)
 prepared_at words (Ok p) n i v x o2 out err sfile reads is_new moves alters =
@@ -173,7 +173,7 @@ prepared_at words (Err ReadFault) n i v x o2 out err sfile reads is_new moves al
 prepared_at words (Err WriteFault) n i v x o2 out err sfile reads is_new moves alters = absurd alters
 prepared_at words (Err DiskFault) n i v x o2 out err sfile reads is_new moves alters = unmade n _ v o2 out err moves
 
-pub read_prepares : (words : AdminWords) (r : Result Prepared StepFault) (n : List ℕ) (left : Option (List ℕ)) (x : Read) (o : Option View) (a b : Told) (out err : Option (List ℕ)) → IsSfile n → seen a ≡ o → IsPlaced x.front → IfSome o (λ v. ReadsAt words n v (Ok x)) → IfOk r IsNewSfile
+pub read_prepares : (words : AdminWords) (r : Result Prepared StepFault) (n : List ℕ) (left : Option (List ℕ)) (x : Read) (o : Option View) (a b : Told) (out err : Option (List ℕ)) → IsSFileName n → seen a ≡ o → IsPlaced x.front → IfSome o (λ v. ReadsAt words n v (Ok x)) → IfOk r IsNewSfile
     → Moves (bytes_eq (x_file n)) (λ u. u) (seen a) (seen b) → Writes words n x r a (seen b) → PreparesChange (alter_change words) r n left (world o out err) (world (seen b) out err)
 read_prepares words r n left x None a b out err sfile here placed reads is_new moves writes = tt
 read_prepares words r n left x (Some v) a b out err sfile here placed reads is_new moves writes = λ i heard.
@@ -199,7 +199,7 @@ settles_none n p a b here moves = by (seen a) (seen b) here moves
     by None (Some u) is moved = absurd cc
     by (Some v) o2 is moved = absurd cc
 
-pub read_settles : (words : AdminWords) (r : Result Prepared StepFault) (n : List ℕ) (x : Read) (o : Option View) (a b : Told) → IsSfile n → seen a ≡ o → IsPlaced x.front → IsHeader x.front.header → IsSpelled x.front.header → IfSome o (λ v. ReadsAt words n v (Ok x)) → IfOk r IsNewSfile
+pub read_settles : (words : AdminWords) (r : Result Prepared StepFault) (n : List ℕ) (x : Read) (o : Option View) (a b : Told) → IsSFileName n → seen a ≡ o → IsPlaced x.front → IsHeader x.front.header → IsSpelled x.front.header → IfSome o (λ v. ReadsAt words n v (Ok x)) → IfOk r IsNewSfile
     → Moves (bytes_eq (x_file n)) (λ u. u) (seen a) (seen b) → Writes words n x r a (seen b) → IfOk r (λ p. SettlesEntries n p b)
 read_settles words (Err fault) n x o a b sfile here placed rules spelled reads is_new moves writes = tt
 read_settles words (Ok p) n x None a b sfile here placed rules spelled reads is_new moves writes = settles_none n p a b here moves

@@ -1,7 +1,7 @@
 -- An altered s-file settles the entries of its name: its delta table is as it was.
 use Rattle.std.proofs.Common.{◌≡◌, ℕ, Bool, true, false, List, Option, None, Some, IfSome, Result, Ok, Err, refl, sym, ap, subst, ◌∙◌}
 use Rattle.std.specs.Prelude.{nat_lt, length, if◌then◌else◌}
-use Rattle.sccs_base.specs.Name.{IsSfile, p_file, q_file, x_file}
+use Rattle.sccs_base.specs.Name.{IsSFileName, p_file, q_file, x_file}
 use Rattle.sccs_disk.specs.Files.{Content, View, put}
 use Rattle.sccs_disk.specs.Told.{Told, seen}
 use Rattle.sccs_disk.proofs.Puts.{put_other, put_same}
@@ -91,7 +91,7 @@ same_table old new h h2 items old_is new_is same =
     table_is new (record { header = h2; items = items }) new_is ∙ (ap (λ (rs : List Record). Some rs) same ∙ sym (unsummed_table old (record { header = h; items = items }) old_is))
 
 -- where the x-file has the altered header over the items of the s-file
-pub altered_settles : (fix : Bool) (words : AdminWords) (n text : List ℕ) (header new : Header) (items : List Item) (p : Prepared) (v : View) (old : Content) (b : Told) → IsSfile n → IsNewSfile p → v n ≡ Some old → IsHeader header → IsSpelled header → file_read fix old.bytes ≡ Ok (record { header = header; items = items })
+pub altered_settles : (fix : Bool) (words : AdminWords) (n text : List ℕ) (header new : Header) (items : List Item) (p : Prepared) (v : View) (old : Content) (b : Told) → IsSFileName n → IsNewSfile p → v n ≡ Some old → IsHeader header → IsSpelled header → file_read fix old.bytes ≡ Ok (record { header = header; items = items })
     → altered_header words header text ≡ Ok new → Becomes (λ w. put w (x_file n) (Some (sealed new items))) (Some v) (seen b) → SettlesEntries n p b
 altered_settles fix words n text header new items p v old b sfile is_new s rules spelled whole is becomes =
     subst (λ (o : Option View). IfSome o (λ u. IsPaired n u → IsSound n u → KeepsEntries n (plan_of p) u × ArePaired (files_after n (plan_of p) u).s (files_after n (plan_of p) u).p)) (sym becomes)

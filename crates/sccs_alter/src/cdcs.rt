@@ -1,5 +1,5 @@
 ghost use Rattle.std.specs.Prelude.{◌≡◌, ◌≢◌, ℕ, List, Err, IfOk, IfSome, Ok, Some};
-ghost use Rattle.sccs_base.specs.Name.{IsSfile, x_file};
+ghost use Rattle.sccs_base.specs.Name.{IsSFileName, x_file};
 ghost use Rattle.sccs_disk.specs.Files.{View};
 ghost use Rattle.sccs_disk.specs.Told.{seen};
 ghost use Rattle.sccs_body.specs.BodyFile.{items_of};
@@ -121,7 +121,7 @@ fn write_read<D: Disk>(
     name: &Name,
     disk: &mut D,
 ) -> Result<Prepared, StepFault>
-    requires sfile { IsSfile name.now }
+    requires sfile { IsSFileName name.now }
     requires moment { IsMoment stamp.now.moment }
     requires rules { IsHeader front.header }
     requires spelled { IsSpelled front.header }

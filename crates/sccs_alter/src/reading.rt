@@ -1,6 +1,6 @@
 ghost use Rattle.std.specs.Prelude.{◌≤◌, IfOk, IfSome, is_some, length, map};
 ghost use Rattle.sccs_base.specs.Constants.{file_limit};
-ghost use Rattle.sccs_base.specs.Name.{IsSfile};
+ghost use Rattle.sccs_base.specs.Name.{IsSFileName};
 ghost use Rattle.sccs_disk.specs.Files.{View};
 ghost use Rattle.sccs_disk.specs.Told.{seen};
 ghost use Rattle.sccs_history.specs.History.{IsHeader, IsSpelled};
@@ -54,7 +54,7 @@ fn named_text<D: Disk>(
     name: &Name,
     disk: &mut D,
 ) -> Result<Bytes, StepFault>
-    requires { IsSfile name.now }
+    requires { IsSFileName name.now }
     ensures told { IfSome (seen (D.told disk.old)) (λ v. Answers (description_text (given.From file.now) (map (unlocked name.now v) (named_by (given.From file.now)))) result) }
     ensures bound { IfOk result (λ text. length text ≤ file_limit) }
     ensures checks { RefusesWithin alter_checks result }
@@ -76,7 +76,7 @@ fn read_text<D: Disk>(
     name: &Name,
     disk: &mut D,
 ) -> Result<Bytes, StepFault>
-    requires { IsSfile name.now }
+    requires { IsSFileName name.now }
     ensures told { IfSome (seen (D.told disk.old)) (λ v. Answers (description_text given (map (unlocked name.now v) (named_by given))) result) }
     ensures bound { IfOk result (λ text. length text ≤ file_limit) }
     ensures checks { RefusesWithin alter_checks result }
@@ -118,7 +118,7 @@ pub fn read_both<D: Disk>(
     name: &Name,
     disk: &mut D,
 ) -> Result<Read, StepFault>
-    requires { IsSfile name.now }
+    requires { IsSFileName name.now }
     ensures told { IfSome (seen (D.told disk.old)) (λ v. ReadsAt words.now name.now v result) }
     ensures placed { IfOk result (λ x. IsPlaced x.front) }
     ensures rules { IfOk result (λ x. IsHeader x.front.header) }

@@ -5,7 +5,7 @@ use Rattle.std.specs.Str.{is_utf8, bytes_eq}
 use Rattle.std.proofs.lemmas.Str.{is_utf8-from_IsUtf8, IsUtf8-from_ascii}
 use Rattle.std.specs.Bool.{Decides}
 use Rattle.std.proofs.lemmas.Bool.Decides.{same_from_decides, Decides-like, Decides-ltb}
-use Rattle.sccs_base.specs.Name.{IsName, IsSfile, is_name, is_sfile_name, name_decides, sfile_name_decides}
+use Rattle.sccs_base.specs.Name.{IsName, IsSFileName, is_name, is_sfile_name, name_decides, sfile_name_decides}
 use Rattle.sccs_base.specs.Login.{IsLogin, is_login, login_decides}
 
 ascii_rest : (b : Bool) (rest : Bool) → (b && rest) ≡ true → rest ≡ true
@@ -24,7 +24,7 @@ ascii_at (b ∷ bytes) low (suc i) = ascii_at bytes (ascii_rest (nat_lt b 128) (
 pub name_test : (r : Bool) (bytes : List ℕ) → Decides r (IsName bytes) → r ≡ is_name bytes
 name_test r bytes found = same_from_decides r (is_name bytes) found (name_decides bytes)
 
-pub sfile_test : (r : Bool) (bytes : List ℕ) → IsName bytes → Decides r (IsSfile bytes) → r ≡ is_sfile_name bytes
+pub sfile_test : (r : Bool) (bytes : List ℕ) → IsName bytes → Decides r (IsSFileName bytes) → r ≡ is_sfile_name bytes
 sfile_test r bytes name found =
     same_from_decides r (is_sfile_name bytes) (Decides-like r (λ sfile. (name, sfile)) (λ both. both.1) found) (sfile_name_decides bytes)
 

@@ -31,7 +31,7 @@ is_name bytes =
     nat_lt 0 (length bytes) && (nat_lt (length bytes) 251 && (not (bytes_eq bytes (46 ∷ [])) && (not (bytes_eq bytes (46 ∷ 46 ∷ [])) && (list_all is_plain bytes && is_utf8 bytes))))
 
 -- `s.` and a name by itself
-pub record IsSfile (bytes : List ℕ) : Type 0 where
+pub record IsSFileName (bytes : List ℕ) : Type 0 where
   pub front : take 2 bytes ≡ 115 ∷ 46 ∷ []
   pub rest : IsName (drop 2 bytes)
 
@@ -77,7 +77,7 @@ name_decides bytes =
     (Decides-and _ _ (Decides-not _ (bytes_eq-Decides bytes (46 ∷ 46 ∷ [])))
     (Decides-and _ _ (Decides-by_and is_plain IsPlain (list_all is_plain) plain_decides refl (λ _ _. refl) bytes) (utf8_decides bytes))))))
 
-pub sfile_name_decides : (bytes : List ℕ) → Decides (is_sfile_name bytes) (IsName bytes × IsSfile bytes)
+pub sfile_name_decides : (bytes : List ℕ) → Decides (is_sfile_name bytes) (IsName bytes × IsSFileName bytes)
 unfolding is_sfile_name
 sfile_name_decides bytes =
     Decides-like _ (λ h. (h.0, record { front = h.1.0; rest = h.1.1 }))

@@ -1,6 +1,6 @@
 ghost use Rattle.std.specs.Prelude.{◌≡◌, ◌≢◌, ◌<◌, ◌≤◌, ◌↔◌, List, [], ◌∷◌, length, drop, is_some, IsTrue, IfSome, OnSome};
 ghost use Rattle.std.specs.Str.{bytes_eq};
-ghost use Rattle.sccs_base.specs.Name.{IsName, IsSfile, is_name, is_sfile_name, sibling};
+ghost use Rattle.sccs_base.specs.Name.{IsName, IsSFileName, is_name, is_sfile_name, sibling};
 
 use crate::constants::{LF, NAME_LENGTH};
 use crate::short_bytes::ShortBytes;
@@ -48,7 +48,7 @@ fn fits(bytes: &[u8]) -> bool
 
 // whether bytes are `s.` and a name by itself
 fn names_sfile(bytes: &[u8]) -> bool
-    ensures { IsTrue result ↔ IsSfile bytes.now }
+    ensures { IsTrue result ↔ IsSFileName bytes.now }
 {
     match bytes {
         [b's', b'.', rest @ ..] => fits(rest),
@@ -82,7 +82,7 @@ impl Name {
     /// The name of an s-file that bytes are: `s.` and a name by itself; None exactly where they are none.
     pub fn read_sfile(bytes: &[u8]) -> Option<Name>
         ensures found { IfSome result (λ name. name ≡ bytes.now) }
-        ensures sfile { OnSome result (IsSfile bytes.now) }
+        ensures sfile { OnSome result (IsSFileName bytes.now) }
         ensures exact { is_some result ≡ is_sfile_name bytes.now }
     {
         match Name::read(bytes) {
@@ -119,14 +119,14 @@ impl Name {
     /// Whether it is the name of an s-file: `s.` and a name by itself.
     pub fn is_sfile(&self) -> bool
         ensures value { result ≡ is_sfile_name self.now }
-        ensures fact { IsTrue result ↔ IsSfile self.now }
+        ensures fact { IsTrue result ↔ IsSFileName self.now }
     {
         names_sfile(self.bytes())
     }
 
     /// The name of an s-file with another first letter: `p.a` for `s.a`.
     pub fn sibling(&self, letter: u8) -> Name
-        requires sfile { IsSfile self.now }
+        requires sfile { IsSFileName self.now }
         requires low { 97 ≤ letter }
         requires high { letter ≤ 122 }
         ensures { result ≡ sibling letter self.now }
@@ -138,7 +138,7 @@ impl Name {
 
     /// The name of an s-file without its first two bytes.
     pub fn module(&self) -> Name
-        requires { IsSfile self.now }
+        requires { IsSFileName self.now }
         ensures { result ≡ drop 2 self.now }
     {
         named(&self.bytes()[2..])

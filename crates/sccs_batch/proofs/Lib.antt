@@ -1,3 +1,3 @@
-pub mod BatchCourses
+pub mod BatchStepLists
 pub mod BatchTexts
-pub mod EntryCourses
+pub mod EntryStepLists

@@ -6,7 +6,7 @@ use Rattle.sccs_base.specs.Login.{is_login}
 use Rattle.sccs_sid.specs.Moment.{moment_of}
 use Rattle.sccs_sid.specs.Reading.{only}
 use Rattle.sccs_batch.specs.Entries.{◌>>=◌, counts_of, field_of, has_own, input_in, words_in}
-use Rattle.sccs_batch.specs.declared.entries.Entry.{Entry}
+use Rattle.sccs_batch.specs.declared.entries.BatchEntry.{BatchEntry}
 use Rattle.sccs_batch.specs.declared.entries.EntryHead.{EntryHead}
 use Rattle.sccs_batch.specs.declared.entries.FoundEntry.{FoundEntry}
 
@@ -29,7 +29,7 @@ abbrev pub is_single : List (List ℕ) → Bool
 is_single [] = false
 is_single (word ∷ words) = not (bytes_eq word (codes "batch") || bytes_eq word (codes "soak"))
 
-abbrev pub entry_with : EntryHead → List (List ℕ) → Entry
+abbrev pub entry_with : EntryHead → List (List ℕ) → BatchEntry
 entry_with head rest = record { stamp = head.stamp; words = words_in head.counts rest; input = input_in head.counts rest }
 
 -- the entry that begins so, with its words and its input in the lines that follow
@@ -43,7 +43,7 @@ batch_entry line rest = head_of line >>= (λ head. entry_by head rest)
 
 -- The entries of a batch up to the first that is none, and the number of its line, from 1.
 pub record Batch : Type 0 where
-  pub entries : List Entry
+  pub entries : List BatchEntry
   pub bad : Option ℕ
 
 abbrev pub no_more : Option ℕ → Batch

@@ -2,13 +2,13 @@ ghost use Rattle.std.specs.Prelude.{◌≡◌, ℕ, true, List, Result};
 ghost use Rattle.sccs_disk.specs.Files.{Folder};
 ghost use Rattle.sccs_sid.specs.Moment.{IsMoment};
 ghost use Rattle.sccs_steps.specs.StepLists.{NamedStep};
-ghost use Rattle.sccs_step_lists.specs.Courses.{AllTake, Courses, portions_of};
+ghost use Rattle.sccs_step_lists.specs.StepLists.{AllTake, StepLists, portions_of};
 ghost use Rattle.sccs_step_lists.specs.QuietSettings.{quiet};
 ghost use Rattle.sccs_batch.specs.Batches.{RunsOwn};
 ghost use Rattle.sccs_batch.specs.BatchText.{is_single};
-ghost use Rattle.sccs_batch.specs.declared.entries.Entry.{Entry};
+ghost use Rattle.sccs_batch.specs.declared.entries.BatchEntry.{BatchEntry};
 
-use crate::entries::Entry;
+use crate::entries::BatchEntry;
 use sccs_base::Sink;
 use sccs_disk::Disk;
 use sccs_steps::Fault;
@@ -17,28 +17,28 @@ use std::alloc::Global;
 /// What does single commands.
 pub trait Commands {
     /// What the command of an entry does, with the entry's input.
-    ghost command: { Self → Entry → Courses };
+    ghost command: { Self → BatchEntry → StepLists };
 
     /// What is asked of an entry's words.
-    ghost fits: { Self → Entry → Type 0 };
+    ghost fits: { Self → BatchEntry → Type 0 };
 
     /// Over any disk: the steps that may come of an entry's command, whole ones with the status.
-    ghost whole: { Self → Entry → ℕ → List NamedStep → Type 0 };
+    ghost whole: { Self → BatchEntry → ℕ → List NamedStep → Type 0 };
 
     /// The same of a command that was begun.
-    ghost begun: { Self → Entry → List NamedStep → Type 0 };
+    ghost begun: { Self → BatchEntry → List NamedStep → Type 0 };
 
     /// What changes files takes the names of s-files alone.
-    ghost takes: { (commands : Self) (entry : Entry) (folder : Folder) (i : List ℕ) → AllTake (portions_of (command commands entry) folder i) };
+    ghost takes: { (commands : Self) (entry : BatchEntry) (folder : Folder) (i : List ℕ) → AllTake (portions_of (command commands entry) folder i) };
 
     /// Some steps may have been begun.
-    ghost might: { (commands : Self) (entry : Entry) → (ts : List NamedStep) × begun commands entry ts };
+    ghost might: { (commands : Self) (entry : BatchEntry) → (ts : List NamedStep) × begun commands entry ts };
 
     /// Does the command of an entry, with the entry's stamp, words and input. It is no list of commands.
     fn run<O: Sink, E: Sink, D: Disk>(
         &self,
         alloc: Global,
-        entry: &Entry,
+        entry: &BatchEntry,
         out: &mut O,
         err: &mut E,
         disk: &mut D,

@@ -4,7 +4,7 @@ use sccs_sid::Stamp;
 
 /// An entry of a batch: a command with a moment, a login, words and an input of its own.
 #[derive(Drop)]
-pub struct Entry {
+pub struct BatchEntry {
     pub stamp: Stamp,
     pub words: Words,
     pub input: Bytes,
@@ -20,6 +20,6 @@ pub struct EntryHead {
 /// An entry, and how many lines stand behind its first one that are its own.
 #[derive(Drop)]
 pub struct FoundEntry {
-    pub entry: Entry,
+    pub entry: BatchEntry,
     pub lines: u32,
 }

@@ -11,7 +11,7 @@ mod text_reading;
 mod texts;
 
 pub use commands::Commands;
-pub use entries::{Entry, EntryHead, FoundEntry};
+pub use entries::{BatchEntry, EntryHead, FoundEntry};
 pub use reading::read_entry;
 pub use running::{refuse_input, run_batch};
 pub use text_reading::{copy_words, join_lines, next_field, own_lines, read_counts};

@@ -3,7 +3,7 @@ ghost use Rattle.sccs_sid.specs.Moment.{IsMoment};
 ghost use Rattle.sccs_batch.specs.Entries.{with_lfs};
 ghost use Rattle.sccs_batch.specs.BatchText.{batch_entry, head_of, is_single};
 
-use crate::entries::{Entry, EntryHead, FoundEntry};
+use crate::entries::{BatchEntry, EntryHead, FoundEntry};
 use crate::text_reading::{copy_words, join_lines, next_field, own_lines, read_counts};
 use crate::texts::OwnLines;
 use sccs_base::{Line, Login, Memory};
@@ -50,12 +50,12 @@ fn is_single(words: &[Line]) -> bool
 }
 
 // the entry of the lines that follow its first one
-fn entry_with(alloc: Global, head: &EntryHead, own: &OwnLines<'_>) -> Result<Entry, Memory>
+fn entry_with(alloc: Global, head: &EntryHead, own: &OwnLines<'_>) -> Result<BatchEntry, Memory>
     ensures { IfOk result (λ entry. (entry.stamp ≡ head.now.stamp) × (entry.words ≡ own.now.words.now) × (entry.input ≡ with_lfs own.now.input.now)) }
 {
     let words = copy_words(alloc, own.words)?;
     let input = join_lines(alloc, own.input)?;
-    Ok(Entry {
+    Ok(BatchEntry {
         stamp: head.stamp,
         words,
         input,

@@ -6,7 +6,7 @@ ghost use Rattle.sccs_batch.specs.BatchText.{batch_of, is_single};
 ghost use Rattle.sccs_batch.specs.Batches.{RunsBatch, RunsEntries, RunsEntry, RunsNext, RefusesInput};
 
 use crate::commands::Commands;
-use crate::entries::Entry;
+use crate::entries::BatchEntry;
 use crate::messages::{write_bad, write_status};
 use crate::reading::read_entry;
 use sccs_base::{FILE_LIMIT, Line, Sink, Source, TakeFault};
@@ -20,7 +20,7 @@ use std::alloc::Global;
 fn run_entry<C: Commands, O: Sink, E: Sink, D: Disk>(
     alloc: Global,
     commands: &C,
-    entry: &Entry,
+    entry: &BatchEntry,
     out: &mut O,
     err: &mut E,
     disk: &mut D,

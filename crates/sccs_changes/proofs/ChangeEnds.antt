@@ -2,7 +2,7 @@
 use Rattle.std.proofs.Common.{◌≡◌, ◌⊎◌, ℕ, zero, suc, Bool, true, false, ◌||◌, cond, List, [], ◌++◌, map, Option, None, Some, IfSome, IsSome, Result, Ok, Err, inl, inr, refl, sym, ap, subst, ◌∙◌}
 use Rattle.std.specs.Prelude.{is_none}
 use Rattle.std.specs.Str.{bytes_eq}
-use Rattle.sccs_base.specs.Name.{IsSfile, p_file, q_file, x_file, y_file, z_file}
+use Rattle.sccs_base.specs.Name.{IsSFileName, p_file, q_file, x_file, y_file, z_file}
 use Rattle.sccs_base.specs.Stream.{GivesOk, GivesSome}
 use Rattle.sccs_base.proofs.Gifts.{gives_both, gives_then, some_longer, some_none, some_of_whole}
 use Rattle.sccs_sid.specs.declared.refusals.Refusal.TheVariants as refusals
@@ -192,7 +192,7 @@ moved_as : (v : View) (n : List ℕ) (new : Option Files) (f : Files) → new �
 moved_as v n new f is = ap (λ (o : Option Files). moved v n o) is
 
 -- the views before the lock, at the commit and at the end
-pub committed_moves : (first : Bool) (n : List ℕ) (c : Plan) (new : Option Files) (v : View) (ob2 od : Option View) → IsSfile n → v (z_file n) ≡ None → Moves (is_working n) (λ u. early_moved first u n new) (Some (locked n v)) ob2 → IfSome ob2 (λ u. new ≡ Some (files_after n c u)) → Becomes (committed n c) ob2 od
+pub committed_moves : (first : Bool) (n : List ℕ) (c : Plan) (new : Option Files) (v : View) (ob2 od : Option View) → IsSFileName n → v (z_file n) ≡ None → Moves (is_working n) (λ u. early_moved first u n new) (Some (locked n v)) ob2 → IfSome ob2 (λ u. new ≡ Some (files_after n c u)) → Becomes (committed n c) ob2 od
     → Moves (is_working n) (λ u. moved u n new) (Some v) od
 committed_moves first n c new v None od sfile free moves files done = absurd moves
 committed_moves first n c new v (Some u) od sfile free moves files done =
@@ -200,7 +200,7 @@ committed_moves first n c new v (Some u) od sfile free moves files done =
     committed_at n c u v k sfile h (λ off other. moves k h ∙ (early_unlocked first n new v k other ∙ early_off first n new v k off)) ∙ sym (ap (λ (w : View). w k) (moved_as v n new (files_after n c u) files)))
 
 -- the view after some of a commit's changes, as that after some first files
-part_first : (i : ℕ) (n : List ℕ) (c : Plan) (u v : View) (k : List ℕ) → IsSfile n → is_left n k ≡ false → (bytes_eq (l_file n) k ≡ false → u k ≡ v k) → part_of n c i u k ≡ first_moved (suc i) v n (Some (files_after n c u)) k
+part_first : (i : ℕ) (n : List ℕ) (c : Plan) (u v : View) (k : List ℕ) → IsSFileName n → is_left n k ≡ false → (bytes_eq (l_file n) k ≡ false → u k ≡ v k) → part_of n c i u k ≡ first_moved (suc i) v n (Some (files_after n c u)) k
 part_first zero n c u v k sfile h same = l_taken n u v k same
 part_first (suc zero) n c u v k sfile h same = first_is n c u k (no_working n k h) ∙ ap (λ (o : Option Content). cond (bytes_eq n k) (files_after n c u).s o) (l_taken n u v k same)
 part_first (suc (suc zero)) n c u v k sfile h same =
@@ -209,7 +209,7 @@ part_first (suc (suc (suc zero))) n c u v k sfile h same =
     sym (put_other (g_swapped n c (p_swapped n c (s_swapped n c u))) (z_file n) k None (no_z n k h)) ∙ committed_at n c u v k sfile (no_working n k h) (λ off other. same off)
 part_first (suc (suc (suc (suc i)))) n c u v k sfile h same = committed_at n c u v k sfile (no_working n k h) (λ off other. same off)
 
-part_moves : (first : Bool) (n : List ℕ) (c : Plan) (new : Option Files) (v : View) (ob2 od : Option View) → IsSfile n → Moves (is_working n) (λ u. early_moved first u n new) (Some (locked n v)) ob2 → IfSome ob2 (λ u. new ≡ Some (files_after n c u)) → IsPart n c ob2 od
+part_moves : (first : Bool) (n : List ℕ) (c : Plan) (new : Option Files) (v : View) (ob2 od : Option View) → IsSFileName n → Moves (is_working n) (λ u. early_moved first u n new) (Some (locked n v)) ob2 → IfSome ob2 (λ u. new ≡ Some (files_after n c u)) → IsPart n c ob2 od
     → MovesInOrder n new (Some v) od
 part_moves first n c new v None od sfile moves files part = absurd moves
 part_moves first n c new v (Some u) od sfile moves files part = (
@@ -226,7 +226,7 @@ text_cut : (a b c : Option (List ℕ)) (text out report : List ℕ) → GivesOk 
 text_cut a b c text out report first second is = subst (λ r. GivesSome a c (text ++ r)) (sym is) (gives_then a b c text report first second)
 
 -- the report of a commit was cut
-pub cut_finished : (first : Bool) (n : List ℕ) (p : Prepared) (o : Outcome) (v : View) (ob2 od : Option View) (out out2 out3 err err3 : Option (List ℕ)) → IsSfile n → v (z_file n) ≡ None → IsPreparedBy first n p o (world (Some (locked n v)) out err) (world ob2 out2 err)
+pub cut_finished : (first : Bool) (n : List ℕ) (p : Prepared) (o : Outcome) (v : View) (ob2 od : Option View) (out out2 out3 err err3 : Option (List ℕ)) → IsSFileName n → v (z_file n) ≡ None → IsPreparedBy first n p o (world (Some (locked n v)) out err) (world ob2 out2 err)
     → FinishesCommit (Err WriteFault) n p (world ob2 out2 err) (world od out3 err3) → (d : StepEffect) × (o ≡ Ok d) × ReportCut n d (world (Some v) out err) (world od out3 err3)
 cut_finished first n p o v ob2 od out out2 out3 err err3 sfile free prepared finishes = (
   prepared.effect,
@@ -241,7 +241,7 @@ cut_finished first n p o v ob2 od out out2 out3 err err3 sfile free prepared fin
 )
 
 -- how it ends whose files were prepared
-pub ends_finished : (first : Bool) (r : Result (Unit {0}) StepFault) (n : List ℕ) (p : Prepared) (o : Outcome) (v : View) (ob2 od : Option View) (out out2 out3 err err3 : Option (List ℕ)) → IsSfile n → v (z_file n) ≡ None → IsPreparedBy first n p o (world (Some (locked n v)) out err) (world ob2 out2 err)
+pub ends_finished : (first : Bool) (r : Result (Unit {0}) StepFault) (n : List ℕ) (p : Prepared) (o : Outcome) (v : View) (ob2 od : Option View) (out out2 out3 err err3 : Option (List ℕ)) → IsSFileName n → v (z_file n) ≡ None → IsPreparedBy first n p o (world (Some (locked n v)) out err) (world ob2 out2 err)
     → FinishesCommit r n p (world ob2 out2 err) (world od out3 err3) → Meets (λ (done : Unit {0}). 0) r n o (world (Some v) out err) (world od out3 err3)
 ends_finished first (Ok done) n p o v ob2 od out out2 out3 err err3 sfile free prepared finishes = (
   prepared.effect,
@@ -285,7 +285,7 @@ given_up_steps x fault r q n left oa ob ob2 od out out2 err is lock free prepare
     behind_lock x r (Err fault) n left oa ob ob2 od out out2 out2 err err lock free (subst (λ (p : Result Prepared StepFault). PreparesChange x p n left (world ob out err) (world ob2 out2 err)) is prepares)
     (λ v o unheld prep. ends_given_up fault r n o v ob2 od out out2 err unheld prep gives_up)
 
-pub finished_steps : (x : Changing) (p : Prepared) (r : Result (Unit {0}) StepFault) (q : Result Prepared StepFault) (n : List ℕ) (left : Option (List ℕ)) (oa ob ob2 od : Option View) (out out2 out3 err err3 : Option (List ℕ)) → IsSfile n → q ≡ Ok p → Becomes (locked n) oa ob → IfSome oa (λ (v : View). v (z_file n) ≡ None)
+pub finished_steps : (x : Changing) (p : Prepared) (r : Result (Unit {0}) StepFault) (q : Result Prepared StepFault) (n : List ℕ) (left : Option (List ℕ)) (oa ob ob2 od : Option View) (out out2 out3 err err3 : Option (List ℕ)) → IsSFileName n → q ≡ Ok p → Becomes (locked n) oa ob → IfSome oa (λ (v : View). v (z_file n) ≡ None)
     → PreparesChange x q n left (world ob out err) (world ob2 out2 err) → FinishesCommit r n p (world ob2 out2 err) (world od out3 err3) → Steps x r n left (world oa out err) (world od out3 err3)
 finished_steps x p r q n left oa ob ob2 od out out2 out3 err err3 sfile is lock free prepares finishes =
     behind_lock x r (Ok p) n left oa ob ob2 od out out2 out3 err err3 lock free (subst (λ (s : Result Prepared StepFault). PreparesChange x s n left (world ob out err) (world ob2 out2 err)) is prepares)

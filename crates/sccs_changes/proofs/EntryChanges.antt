@@ -2,7 +2,7 @@
 use Rattle.std.proofs.Common.{◌≡◌, ℕ, Bool, false, List, [], drop, Option, None, Some, Result, Ok, Err, refl, sym, ap, subst, ◌∙◌}
 use Rattle.std.specs.Prelude.{IfOk, IfSome}
 use Rattle.std.specs.Str.{bytes_eq}
-use Rattle.sccs_base.specs.Name.{IsSfile, p_file, q_file, z_file}
+use Rattle.sccs_base.specs.Name.{IsSFileName, p_file, q_file, z_file}
 use Rattle.sccs_base.proofs.Gifts.{some_none}
 use Rattle.sccs_disk.specs.Calls.{IsThere}
 use Rattle.sccs_disk.specs.Files.{Content, View}
@@ -49,12 +49,12 @@ unfolding entries_outcome
 outcome_is decide n i named f = refl
 
 -- the files as they were before the lock
-as_seen : (n : List ℕ) (v : View) (r : Result Found Refusal) → IsSfile n → pending_of (v n) (v (p_file n)) ≡ r → pending_of (look (unlocked n v) n).s (look (unlocked n v) n).p ≡ r
+as_seen : (n : List ℕ) (v : View) (r : Result Found Refusal) → IsSFileName n → pending_of (v n) (v (p_file n)) ≡ r → pending_of (look (unlocked n v) n).s (look (unlocked n v) n).p ≡ r
 as_seen n v r sfile is =
     ap (λ (o : Option Content). pending_of o (unlocked n v (p_file n))) (put_other v (z_file n) n None (from_s 122 n sfile refl))
     ∙ (ap (λ (o : Option Content). pending_of (v n) o) (put_other v (z_file n) (p_file n) None refl) ∙ is)
 
-step_as : (decide : Deciding) (n i : List ℕ) (named : List (Option Content)) (v : View) (r : Result Found Refusal) → IsSfile n → pending_of (v n) (v (p_file n)) ≡ r
+step_as : (decide : Deciding) (n i : List ℕ) (named : List (Option Content)) (v : View) (r : Result Found Refusal) → IsSFileName n → pending_of (v n) (v (p_file n)) ≡ r
     → entries_outcome decide n i named (look (unlocked n v) n) ≡ from_found decide n (look (unlocked n v) n) r
 step_as decide n i named v r sfile is = outcome_is decide n i named (look (unlocked n v) n) ∙ ap (from_found decide n (look (unlocked n v) n)) (as_seen n v r sfile is)
 
@@ -63,7 +63,7 @@ unmade n text v o2 out err moves = record { view = moves_wider (bytes_eq (q_file
 
 -- ---- the files aren't read
 
-unread : (decide : Deciding) (fault : StepFault) (n i : List ℕ) (named : List (Option Content)) (v : View) (out err : Option (List ℕ)) → IsSfile n → AnswersPending (v n) (v (p_file n)) (Err fault)
+unread : (decide : Deciding) (fault : StepFault) (n i : List ℕ) (named : List (Option Content)) (v : View) (out err : Option (List ℕ)) → IsSFileName n → AnswersPending (v n) (v (p_file n)) (Err fault)
     → Prepares (Err fault) n (entries_outcome decide n i named (look (unlocked n v) n)) (world (Some v) out err) (world (Some v) out err)
 unread decide (Refused refusal) n i named v out err sfile answers = (step_as decide n i named v (Err refusal) sfile answers, unmade n [] v (Some v) out err (λ k h. refl))
 unread decide Memory n i named v out err sfile answers = unmade n _ v (Some v) out err (λ k h. refl)
@@ -71,7 +71,7 @@ unread decide DiskFault n i named v out err sfile answers = unmade n _ v (Some v
 unread decide ReadFault n i named v out err sfile answers = absurd answers
 unread decide WriteFault n i named v out err sfile answers = absurd answers
 
-pub unread_prepares : (decide : Deciding) (could : Outcome → Bool) (fault : StepFault) (n : List ℕ) (left : Option (List ℕ)) (o o2 : Option View) (out err : Option (List ℕ)) → IsSfile n → o2 ≡ o → IfSome o (λ (v : View). AnswersPending (v n) (v (p_file n)) (Err fault))
+pub unread_prepares : (decide : Deciding) (could : Outcome → Bool) (fault : StepFault) (n : List ℕ) (left : Option (List ℕ)) (o o2 : Option View) (out err : Option (List ℕ)) → IsSFileName n → o2 ≡ o → IfSome o (λ (v : View). AnswersPending (v n) (v (p_file n)) (Err fault))
     → PreparesChange (changing decide could) (Err fault) n left (world o out err) (world o2 out err)
 unread_prepares decide could fault n left None o2 out err sfile same answers = tt
 unread_prepares decide could fault n left (Some v) o2 out err sfile same answers = λ i heard.
@@ -89,13 +89,13 @@ ShowsFound x found = (found.parsed.header ≡ x.front.header) × (found.edits �
 found_in : (v : View) (n : List ℕ) (x : Pending) → IsRead v n x → (found : Found) × ShowsFound x found × (pending_of (v n) (v (p_file n)) ≡ Ok found)
 found_in v n x read = (record { parsed = read.0; edits = x.edits }, (sym (shown_header (bytes_at (v n)) read.0 x.front read.1), refl), read.2)
 
-decided_step : (decide : Deciding) (n i : List ℕ) (named : List (Option Content)) (v : View) (x : Pending) (r : Result Decided Refusal) → IsSfile n → IsRead v n x → ((found : Found) → ShowsFound x found → decide n found ≡ r)
+decided_step : (decide : Deciding) (n i : List ℕ) (named : List (Option Content)) (v : View) (x : Pending) (r : Result Decided Refusal) → IsSFileName n → IsRead v n x → ((found : Found) → ShowsFound x found → decide n found ≡ r)
     → entries_outcome decide n i named (look (unlocked n v) n) ≡ (r >>= λ d. with_decided (look (unlocked n v) n) d)
 decided_step decide n i named v x r sfile read is =
     let f = found_in v n x read in
     step_as decide n i named v (Ok f.0) sfile f.2 ∙ ap (λ (s : Result Decided Refusal). s >>= λ d. with_decided (look (unlocked n v) n) d) (is f.0 f.1)
 
-undecided : (decide : Deciding) (fault : StepFault) (n i : List ℕ) (named : List (Option Content)) (v : View) (x : Pending) (out err : Option (List ℕ)) → IsSfile n → IsRead v n x → ((found : Found) → ShowsFound x found → Answers {A = Decided} (decide n found) (Err fault))
+undecided : (decide : Deciding) (fault : StepFault) (n i : List ℕ) (named : List (Option Content)) (v : View) (x : Pending) (out err : Option (List ℕ)) → IsSFileName n → IsRead v n x → ((found : Found) → ShowsFound x found → Answers {A = Decided} (decide n found) (Err fault))
     → Prepares (Err fault) n (entries_outcome decide n i named (look (unlocked n v) n)) (world (Some v) out err) (world (Some v) out err)
 undecided decide (Refused refusal) n i named v x out err sfile read answers = (decided_step decide n i named v x (Err refusal) sfile read answers, unmade n [] v (Some v) out err (λ k h. refl))
 undecided decide Memory n i named v x out err sfile read answers = unmade n _ v (Some v) out err (λ k h. refl)
@@ -103,7 +103,7 @@ undecided decide DiskFault n i named v x out err sfile read answers = unmade n _
 undecided decide ReadFault n i named v x out err sfile read answers = absurd (answers (found_in v n x read).0 (found_in v n x read).1)
 undecided decide WriteFault n i named v x out err sfile read answers = absurd (answers (found_in v n x read).0 (found_in v n x read).1)
 
-pub undecided_prepares : (decide : Deciding) (could : Outcome → Bool) (fault : StepFault) (n : List ℕ) (x : Pending) (left : Option (List ℕ)) (o o2 : Option View) (out err : Option (List ℕ)) → IsSfile n → o2 ≡ o → IfSome o (λ (v : View). IsRead v n x) → ((found : Found) → ShowsFound x found → Answers {A = Decided} (decide n found) (Err fault))
+pub undecided_prepares : (decide : Deciding) (could : Outcome → Bool) (fault : StepFault) (n : List ℕ) (x : Pending) (left : Option (List ℕ)) (o o2 : Option View) (out err : Option (List ℕ)) → IsSFileName n → o2 ≡ o → IfSome o (λ (v : View). IsRead v n x) → ((found : Found) → ShowsFound x found → Answers {A = Decided} (decide n found) (Err fault))
     → PreparesChange (changing decide could) (Err fault) n left (world o out err) (world o2 out err)
 undecided_prepares decide could fault n x left None o2 out err sfile same read answers = tt
 undecided_prepares decide could fault n x left (Some v) o2 out err sfile same read answers = λ i heard.
@@ -111,7 +111,7 @@ undecided_prepares decide could fault n x left (Some v) o2 out err sfile same re
 
 -- ---- what was decided is prepared
 
-decided : (decide : Deciding) (n i : List ℕ) (named : List (Option Content)) (v : View) (x : Pending) (d : Decided) (r : Result Prepared StepFault) (a b : Told) (out err : Option (List ℕ)) → IsSfile n → seen a ≡ Some v → IsRead v n x → ((found : Found) → ShowsFound x found → decide n found ≡ Ok d) → PreparesDecided r n d a b
+decided : (decide : Deciding) (n i : List ℕ) (named : List (Option Content)) (v : View) (x : Pending) (d : Decided) (r : Result Prepared StepFault) (a b : Told) (out err : Option (List ℕ)) → IsSFileName n → seen a ≡ Some v → IsRead v n x → ((found : Found) → ShowsFound x found → decide n found ≡ Ok d) → PreparesDecided r n d a b
     → Prepares r n (entries_outcome decide n i named (look (unlocked n v) n)) (world (Some v) out err) (world (seen b) out err)
 decided decide n i named v x d (Ok p) a b out err sfile is read means drops =
     entries_prepared n d.edits (kept_g d.keep (unlocked n v (drop 2 n))) d.report p _ v (seen b) out err sfile (decided_step decide n i named v x (Ok d) sfile read means) drops.of
@@ -124,7 +124,7 @@ decided decide n i named v x d (Err ReadFault) a b out err sfile is read means d
 decided decide n i named v x d (Err WriteFault) a b out err sfile is read means drops = unmade n _ v (seen b) out err (subst (λ (o : Option View). Moves (bytes_eq (q_file n)) (λ u. u) o (seen b)) is drops)
 decided decide n i named v x d (Err DiskFault) a b out err sfile is read means drops = unmade n _ v (seen b) out err (subst (λ (o : Option View). Moves (bytes_eq (q_file n)) (λ u. u) o (seen b)) is drops)
 
-pub decided_prepares : (decide : Deciding) (could : Outcome → Bool) (n : List ℕ) (x : Pending) (d : Decided) (r : Result Prepared StepFault) (left : Option (List ℕ)) (o : Told) (a b : Told) (out err : Option (List ℕ)) → IsSfile n → a ≡ o → IfSome (seen o) (λ (v : View). IsRead v n x) → ((found : Found) → ShowsFound x found → decide n found ≡ Ok d) → PreparesDecided r n d a b
+pub decided_prepares : (decide : Deciding) (could : Outcome → Bool) (n : List ℕ) (x : Pending) (d : Decided) (r : Result Prepared StepFault) (left : Option (List ℕ)) (o : Told) (a b : Told) (out err : Option (List ℕ)) → IsSFileName n → a ≡ o → IfSome (seen o) (λ (v : View). IsRead v n x) → ((found : Found) → ShowsFound x found → decide n found ≡ Ok d) → PreparesDecided r n d a b
     → PreparesChange (changing decide could) r n left (world (seen o) out err) (world (seen b) out err)
 decided_prepares decide could n x d r left o a b out err sfile same read means drops = by (seen o) refl read
   where
@@ -134,7 +134,7 @@ decided_prepares decide could n x d r left o a b out err sfile same read means d
 
 -- ---- what a commit needs, and what may come
 
-pub decided_ready : (n : List ℕ) (x : Pending) (d : Decided) (r : Result Prepared StepFault) (o a b : Told) → IsSfile n → a ≡ o → IsThere (z_file n) o → IfSome (seen o) (λ (v : View). IsRead v n x) → (d.edits ≡ [] → x.edits ≡ [] → ⊥) → PreparesDecided r n d a b → IfOk r (λ p. IsReady n p b)
+pub decided_ready : (n : List ℕ) (x : Pending) (d : Decided) (r : Result Prepared StepFault) (o a b : Told) → IsSFileName n → a ≡ o → IsThere (z_file n) o → IfSome (seen o) (λ (v : View). IsRead v n x) → (d.edits ≡ [] → x.edits ≡ [] → ⊥) → PreparesDecided r n d a b → IfOk r (λ p. IsReady n p b)
 decided_ready n x d (Ok p) o a b sfile same z read some drops =
     entries_ready n d.edits p d.report a b sfile drops.of (subst (λ t. IsThere (z_file n) t) (sym same) z) drops.moves drops.entries
     (λ none. found_there n x a (subst (λ t. IfSome (seen t) (λ (v : View). IsRead v n x)) (sym same) read) (some none)) drops.g.needs

@@ -2,7 +2,7 @@
 use Rattle.std.proofs.Common.{◌≡◌, ℕ, zero, suc, false, List, [], ◌∷◌, All, arith, drop, insert, remove, length, Option, None, Some, Ok, refl, sym, ap, subst, ◌∙◌}
 use Rattle.std.specs.Prelude.{IfSome, IsSome}
 use Rattle.std.specs.Str.{bytes_eq}
-use Rattle.sccs_base.specs.Name.{IsSfile, p_file, q_file, x_file, y_file, z_file}
+use Rattle.sccs_base.specs.Name.{IsSFileName, p_file, q_file, x_file, y_file, z_file}
 use Rattle.sccs_base.proofs.Gifts.{gives_none}
 use Rattle.sccs_disk.specs.Calls.{IsThere}
 use Rattle.sccs_disk.specs.Files.{Content, View, put}
@@ -28,7 +28,7 @@ use Rattle.sccs_changes.specs.NewEntries.{IsOfEntries, PreparesEntries, with_ent
 abbrev files_of : Option Content → Option Content → Option Content → Option Content → Option Files
 files_of s p g l = Some (record { s = s; p = p; z = None; g = g; l = l })
 
-files_are : (n : List ℕ) (edits : List Edit) (g : Option Content) (p : Prepared) (v u : View) → IsSfile n → p.new_s ≡ false → ((k : List ℕ) → bytes_eq (q_file n) k ≡ false → u k ≡ v k) → ((old : Option Content) → chosen p.new_p (u (q_file n)) old ≡ pfile_of edits)
+files_are : (n : List ℕ) (edits : List Edit) (g : Option Content) (p : Prepared) (v u : View) → IsSFileName n → p.new_s ≡ false → ((k : List ℕ) → bytes_eq (q_file n) k ≡ false → u k ≡ v k) → ((old : Option Content) → chosen p.new_p (u (q_file n)) old ≡ pfile_of edits)
     → ((y : Option Content) → chosen p.new_g y (v (drop 2 n)) ≡ g) → files_of (unlocked n v n) (pfile_of edits) g (unlocked n v (l_file n)) ≡ Some (files_after n (plan_of p) u)
 files_are n edits g p v u sfile s same entries left =
     ap (λ (o : Option Content). files_of o (pfile_of edits) g (unlocked n v (l_file n))) (put_other v (z_file n) n None (from_s 122 n sfile refl) ∙ (sym (same n (from_s 113 n sfile refl)) ∙ ap (λ b. chosen (replaced b) (u (x_file n)) (u n)) (sym s)))
@@ -38,7 +38,7 @@ files_are n edits g p v u sfile s same entries left =
     ∙ ap (λ (o : Option Content). files_of (chosen (replaced p.new_s) (u (x_file n)) (u n)) (chosen p.new_p (u (q_file n)) (u (p_file n))) (chosen p.new_g (u (y_file n)) (u (drop 2 n))) o)
     (put_other v (z_file n) (l_file n) None refl ∙ sym (same (l_file n) refl))))
 
-pub entries_prepared : (n : List ℕ) (edits : List Edit) (g : Option Content) (report : List ℕ) (p : Prepared) (o : Outcome) (v : View) (o2 : Option View) (out err : Option (List ℕ)) → IsSfile n → o ≡ Ok (with_entries (look (unlocked n v) n) edits g report) → IsOfEntries p report
+pub entries_prepared : (n : List ℕ) (edits : List Edit) (g : Option Content) (report : List ℕ) (p : Prepared) (o : Outcome) (v : View) (o2 : Option View) (out err : Option (List ℕ)) → IsSFileName n → o ≡ Ok (with_entries (look (unlocked n v) n) edits g report) → IsOfEntries p report
     → Moves (bytes_eq (q_file n)) (λ w. w) (Some v) o2 → IfSome o2 (λ (u : View). (old : Option Content) → chosen p.new_p (u (q_file n)) old ≡ pfile_of edits) → ((y : Option Content) → chosen p.new_g y (v (drop 2 n)) ≡ g)
     → IfSome o2 (λ (u : View). IsTakenOrGone p.new_p (v (q_file n)) (u (q_file n))) → IsPrepared n p o (world (Some v) out err) (world o2 out err)
 entries_prepared n edits g report p o v None out err sfile is of moves entries left taken = absurd moves
@@ -61,12 +61,12 @@ there_moved n k None b other moves there = subst (λ (o : Option View). IfSome o
 there_moved n k (Some v) None other moves there = absurd moves
 there_moved n k (Some v) (Some u) other moves there = subst IsSome (sym (moves k other)) there
 
-needs_moved : (n y : List ℕ) (new : NewFile) (a b : Told) → IsSfile n → bytes_eq (q_file n) y ≡ false → Moves (bytes_eq (q_file n)) (λ v. v) (seen a) (seen b) → Needs new y (drop 2 n) a → Needs new y (drop 2 n) b
+needs_moved : (n y : List ℕ) (new : NewFile) (a b : Told) → IsSFileName n → bytes_eq (q_file n) y ≡ false → Moves (bytes_eq (q_file n)) (λ v. v) (seen a) (seen b) → Needs new y (drop 2 n) a → Needs new y (drop 2 n) b
 needs_moved n y Keep a b sfile other moves needs = tt
 needs_moved n y Replace a b sfile other moves needs = there_moved (q_file n) y (seen a) (seen b) other moves needs
 needs_moved n y Remove a b sfile other moves needs = there_moved (q_file n) (drop 2 n) (seen a) (seen b) (from_g 113 n sfile) moves needs
 
-pub entries_ready : (n : List ℕ) (edits : List Edit) (p : Prepared) (report : List ℕ) (a b : Told) → IsSfile n → IsOfEntries p report → IsThere (z_file n) a → Moves (bytes_eq (q_file n)) (λ v. v) (seen a) (seen b)
+pub entries_ready : (n : List ℕ) (edits : List Edit) (p : Prepared) (report : List ℕ) (a b : Told) → IsSFileName n → IsOfEntries p report → IsThere (z_file n) a → Moves (bytes_eq (q_file n)) (λ v. v) (seen a) (seen b)
     → PreparesEntries n edits p.new_p a b → (edits ≡ [] → IsThere (p_file n) a) → Needs p.new_g (y_file n) (drop 2 n) a → IsReady n p b
 entries_ready n edits p report a b sfile of z moves entries there g = record {
   z = there_moved (q_file n) (z_file n) (seen a) (seen b) refl moves z;

@@ -1,6 +1,6 @@
 -- What a step answers that is refused or fails while it reads its files.
 use Rattle.std.proofs.Common.{◌≡◌, ℕ, Bool, List, Option, None, Some, Result, Ok, Err, refl, sym, ap, subst, ◌∙◌, true, false, IfSome, []}
-use Rattle.sccs_base.specs.Name.{IsSfile, p_file, z_file}
+use Rattle.sccs_base.specs.Name.{IsSFileName, p_file, z_file}
 use Rattle.sccs_disk.specs.Files.{Content, View}
 use Rattle.sccs_disk.proofs.Puts.{put_other}
 use Rattle.sccs_sid.specs.declared.refusals.Refusal.{Refusal}
@@ -38,7 +38,7 @@ use Rattle.sccs_base.proofs.Gifts.{some_none}
 abbrev pub files_at : List ℕ → View → Files
 files_at n v = look (unlocked n v) n
 
-pub pending_seen : (n : List ℕ) (v : View) → IsSfile n → pending_of (files_at n v).s (files_at n v).p ≡ pending_of (v n) (v (p_file n))
+pub pending_seen : (n : List ℕ) (v : View) → IsSFileName n → pending_of (files_at n v).s (files_at n v).p ≡ pending_of (v n) (v (p_file n))
 pending_seen n v sfile =
     ap (λ (o : Option Content). pending_of o (unlocked n v (p_file n))) (put_other v (z_file n) n None (from_s 122 n sfile refl))
     ∙ ap (λ (o : Option Content). pending_of (v n) o) (put_other v (z_file n) (p_file n) None refl)

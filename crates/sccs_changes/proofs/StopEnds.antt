@@ -2,7 +2,7 @@
 use Rattle.std.proofs.Common.{◌≡◌, ℕ, Bool, true, false, List, [], map, drop, Option, None, Some, option_map, IfSome, Result, Ok, Err, is_some, inl, inr, refl, sym, ap, subst, ◌∙◌, ⊎_elim}
 use Rattle.std.specs.Prelude.{IsSome}
 use Rattle.std.specs.Str.{bytes_eq}
-use Rattle.sccs_base.specs.Name.{IsSfile, p_file, q_file, x_file, z_file}
+use Rattle.sccs_base.specs.Name.{IsSFileName, p_file, q_file, x_file, z_file}
 use Rattle.sccs_sid.specs.declared.refusals.Refusal.{Refusal}
 use Rattle.sccs_sid.specs.declared.refusals.Refusal.TheVariants as refusals
 use Rattle.sccs_sid.specs.declared.refusals.StepFault.{StepFault}
@@ -17,7 +17,7 @@ use Rattle.sccs_name_files.specs.Touches.{Leaves, TouchesOnly, earlier, newest}
 use Rattle.sccs_intents.specs.Intents.{intent_file}
 use Rattle.sccs_intents.specs.declared.intents.Fate.{Fate}
 use Rattle.sccs_crash_points.specs.Calm.{IsCalm}
-use Rattle.sccs_crash_points.specs.Moments.{EndsAfter, EndsBefore}
+use Rattle.sccs_crash_points.specs.CrashPoints.{EndsAfter, EndsBefore}
 use Rattle.sccs_pfile.specs.Recovered.{recovered_pfile}
 use Rattle.sccs_crash_points.specs.Recovery.{IsSound, RecoversAs, fate_at, is_kept}
 use Rattle.sccs_crash_points.specs.Unlocked.{KeptOthers}
@@ -69,11 +69,11 @@ at_locked x n left ta td out err m past i same taken is heard calm safe =
     )
 
 -- a lock that failed, whether the name was locked or not
-failed_before : (n : List ℕ) (ta td : Told) (m : Model) (past : List Model) (z : Option Content) → view_of m (z_file n) ≡ z → IsSfile n → TouchesOnly (bytes_eq (z_file n)) ta td → KeepsHeld n ta td → ta ≡ Tells m past → IsCalm m → (view_of m (z_file n) ≡ None → IsSound n (view_of m)) → EndsBefore (view_of m) m past td
+failed_before : (n : List ℕ) (ta td : Told) (m : Model) (past : List Model) (z : Option Content) → view_of m (z_file n) ≡ z → IsSFileName n → TouchesOnly (bytes_eq (z_file n)) ta td → KeepsHeld n ta td → ta ≡ Tells m past → IsCalm m → (view_of m (z_file n) ≡ None → IsSound n (view_of m)) → EndsBefore (view_of m) m past td
 failed_before n ta td m past None z sfile touches held is calm sound = ends_before n ta td m past sfile is calm (sound z) (lock_early n ta td touches)
 failed_before n ta td m past (Some c) z sfile touches held is calm sound = held m past is calm (ap is_some z)
 
-pub at_failed : (x : Changing) (n : List ℕ) (left : Option (List ℕ)) (ta td : Told) (out err : Option (List ℕ)) (m : Model) (past : List Model) (i : List ℕ) → IsSfile n → Moves (bytes_eq (z_file n)) (λ v. v) (seen ta) (seen td) → TouchesOnly (bytes_eq (z_file n)) ta td → KeepsHeld n ta td → ta ≡ Tells m past → IsHeard x.takes left i → IsCalm m → (view_of m (z_file n) ≡ None → IsSound n (view_of m))
+pub at_failed : (x : Changing) (n : List ℕ) (left : Option (List ℕ)) (ta td : Told) (out err : Option (List ℕ)) (m : Model) (past : List Model) (i : List ℕ) → IsSFileName n → Moves (bytes_eq (z_file n)) (λ v. v) (seen ta) (seen td) → TouchesOnly (bytes_eq (z_file n)) ta td → KeepsHeld n ta td → ta ≡ Tells m past → IsHeard x.takes left i → IsCalm m → (view_of m (z_file n) ≡ None → IsSound n (view_of m))
     → MeetsAt (locking x) (Err DiskFault) n (locking_step x.outcome n i (map (view_of m) (x.named n)) (look (view_of m) n)) (view_of m) m past (scene ta out err) (scene td out err)
 at_failed x n left ta td out err m past i sfile moves touches held is heard calm sound =
     let kept : EndsBefore (view_of m) m past td = failed_before n ta td m past (view_of m (z_file n)) refl sfile touches held is calm sound in
@@ -122,7 +122,7 @@ gives_so y fault r n o v m past ob2 td out out2 err free prepares (inr broken) s
     subst (λ (s : Result (Unit {0}) StepFault). EndsSo y s n v m past td out err out2 err o) (sym broken.0)
     (broken_off unmade.0 n o v ob2 (seen td) out out2 err unmade.1.view broken.1 unmade.1.out, (before_within v (moved v n (effect_of n o).new) m past td kept, inr (recovers_before v m past td kept)))
 
-pub at_given_up : (x : Changing) (fault : StepFault) (r : Result (Unit {0}) StepFault) (q : Result Prepared StepFault) (n : List ℕ) (left : Option (List ℕ)) (ta tb tb2 td : Told) (out out2 err : Option (List ℕ)) (m : Model) (past : List Model) (i : List ℕ) → IsSfile n → q ≡ Err fault
+pub at_given_up : (x : Changing) (fault : StepFault) (r : Result (Unit {0}) StepFault) (q : Result Prepared StepFault) (n : List ℕ) (left : Option (List ℕ)) (ta tb tb2 td : Told) (out out2 err : Option (List ℕ)) (m : Model) (past : List Model) (i : List ℕ) → IsSFileName n → q ≡ Err fault
     → Becomes (locked n) (seen ta) (seen tb) → IfSome (seen ta) (λ (v : View). v (z_file n) ≡ None) → PreparesChange x q n left (world (seen tb) out err) (world (seen tb2) out2 err) → GivesUp r fault n (world (seen tb2) out2 err) (world (seen td) out2 err)
     → TouchesOnly (bytes_eq (z_file n)) ta tb → Drafts x.early n tb tb2 → TouchesOnly (is_left n) tb2 td → ta ≡ Tells m past → IsHeard x.takes left i → IsCalm m → IsSafe n (view_of m)
     → MeetsAt (locking x) r n (locking_step x.outcome n i (map (view_of m) (x.named n)) (look (view_of m) n)) (view_of m) m past (scene ta out err) (scene td out2 err)
@@ -138,7 +138,7 @@ abbrev Follows : List ℕ → View → View → Type 0
 Follows n v u = (k : List ℕ) → is_working n k ≡ false → bytes_eq (l_file n) k ≡ false → u k ≡ locked n v k
 
 -- the view after the commit, and after the step
-view_at : (n : List ℕ) (c : Plan) (v u : View) (k : List ℕ) → IsSfile n → Follows n v u → is_working n k ≡ false → committed n c u k ≡ placed v n (files_after n c u) k
+view_at : (n : List ℕ) (c : Plan) (v u : View) (k : List ℕ) → IsSFileName n → Follows n v u → is_working n k ≡ false → committed n c u k ≡ placed v n (files_after n c u) k
 view_at n c v u k sfile moves h = committed_at n c u v k sfile h (λ off other. moves k h off ∙ put_other v (z_file n) k (Some empty_file) other)
 
 named_not : (f : Option Fate) → f ≡ None → IsSome f → ⊥
@@ -149,7 +149,7 @@ named_not (Some fate) is named = cc
 named_apart : (n k : List ℕ) (w : View) → fate_at w n ≡ None → IsSome (fate_at w k) → bytes_eq n k ≡ false
 named_apart n k w free named = ⊎_elim (λ e. absurd (named_not (fate_at w k) (subst (λ l. fate_at w l ≡ None) e free) named)) (λ apart. apart) (name_cases n k)
 
-recovers_moved : (n : List ℕ) (c : Plan) (v u : View) (new : Option Files) → IsSfile n → is_kept (drop 2 n) ≡ false → fate_at v n ≡ None → Follows n v u → new ≡ Some (files_after n c u) → RecoversAs (moved v n new) (committed n c u)
+recovers_moved : (n : List ℕ) (c : Plan) (v u : View) (new : Option Files) → IsSFileName n → is_kept (drop 2 n) ≡ false → fate_at v n ≡ None → Follows n v u → new ≡ Some (files_after n c u) → RecoversAs (moved v n new) (committed n c u)
 recovers_moved n c v u new sfile plain free moves is =
     let w : View = placed v n (files_after n c u) in
     let unnamed : fate_at w n ≡ None = others_fate n n v w sfile plain (moved_others n v (Some (files_after n c u))) ∙ free in
@@ -164,14 +164,14 @@ moves_now first n new v tb2 m1 past1 moves is = λ k h off.
     subst (λ (t : Told). Moves (is_working n) (λ u. early_moved first u n new) (Some (locked n v)) (seen t)) is moves k h ∙ early_off first n new (locked n v) k off
 
 -- whether there is a p-file without an s-file doesn't depend on working files
-still_paired : (n : List ℕ) (v u : View) → IsSfile n → IsPaired n v → Follows n v u → IsPaired n u
+still_paired : (n : List ℕ) (v u : View) → IsSFileName n → IsPaired n v → Follows n v u → IsPaired n u
 still_paired n v u sfile paired moves = λ none. same (p_file n) refl refl refl ∙ paired (sym (same n (working_s n n sfile) (from_s 108 n sfile refl) (from_s 122 n sfile refl)) ∙ none)
   where
     same : (k : List ℕ) → is_working n k ≡ false → bytes_eq (l_file n) k ≡ false → bytes_eq (z_file n) k ≡ false → u k ≡ v k
     same k h off other = moves k h off ∙ put_other v (z_file n) k (Some empty_file) other
 
 -- nor does whether an entry of the p-file has its delta in the s-file
-still_sound : (n : List ℕ) (v u : View) → IsSfile n → IsSound n v → Follows n v u → IsSound n u
+still_sound : (n : List ℕ) (v u : View) → IsSFileName n → IsSound n v → Follows n v u → IsSound n u
 still_sound n v u sfile sound moves =
     let s : u n ≡ v n = moves n (working_s n n sfile) (from_s 108 n sfile refl) ∙ put_other v (z_file n) n (Some empty_file) (from_s 122 n sfile refl) in
     let p : u (p_file n) ≡ v (p_file n) = moves (p_file n) refl refl ∙ put_other v (z_file n) (p_file n) (Some empty_file) refl in
@@ -191,13 +191,13 @@ plain_where Replace P plain = plain
 plain_where Remove P plain = plain
 
 -- what becomes of the entries, where the model is told
-settled_now : (first : Bool) (n : List ℕ) (p : Prepared) (new : Option Files) (v : View) (tb2 : Told) (m1 : Model) (past1 : List Model) → IsSfile n → IsPaired n v → IsSound n v → Moves (is_working n) (λ u. early_moved first u n new) (Some (locked n v)) (seen tb2) → SettlesEntries n p tb2 → tb2 ≡ Tells m1 past1
+settled_now : (first : Bool) (n : List ℕ) (p : Prepared) (new : Option Files) (v : View) (tb2 : Told) (m1 : Model) (past1 : List Model) → IsSFileName n → IsPaired n v → IsSound n v → Moves (is_working n) (λ u. early_moved first u n new) (Some (locked n v)) (seen tb2) → SettlesEntries n p tb2 → tb2 ≡ Tells m1 past1
     → KeepsEntries n (plan_of p) (view_of m1) × ArePaired (files_after n (plan_of p) (view_of m1)).s (files_after n (plan_of p) (view_of m1)).p
 settled_now first n p new v tb2 m1 past1 sfile paired sound moves entries is =
     (subst (λ (t : Told). IfSome (seen t) (λ u. IsPaired n u → IsSound n u → KeepsEntries n (plan_of p) u × ArePaired (files_after n (plan_of p) u).s (files_after n (plan_of p) u).p)) is entries) (still_paired n v (view_of m1) sfile paired (moves_now first n new v tb2 m1 past1 moves is))
     (still_sound n v (view_of m1) sfile sound (moves_now first n new v tb2 m1 past1 moves is))
 
-has_prepared : (first early : Bool) (n : List ℕ) (p : Prepared) (new : Option Files) (v : View) (ta tb tb2 : Told) → IsSfile n → IsPaired n v → IsSound n v → Moves (is_working n) (λ u. early_moved first u n new) (Some (locked n v)) (seen tb2) → TouchesOnly (bytes_eq (z_file n)) ta tb → Drafts early n tb tb2 → IsFirmPrepared n p tb tb2 → SettlesEntries n p tb2 → HasPrepared n (plan_of p) ta tb2
+has_prepared : (first early : Bool) (n : List ℕ) (p : Prepared) (new : Option Files) (v : View) (ta tb tb2 : Told) → IsSFileName n → IsPaired n v → IsSound n v → Moves (is_working n) (λ u. early_moved first u n new) (Some (locked n v)) (seen tb2) → TouchesOnly (bytes_eq (z_file n)) ta tb → Drafts early n tb tb2 → IsFirmPrepared n p tb tb2 → SettlesEntries n p tb2 → HasPrepared n (plan_of p) ta tb2
 has_prepared first early n p new v ta tb tb2 sfile paired sound moves locks working firm entries = record {
   others = prepared_early early n ta tb tb2 locks working;
   x_state = firm_from (plan_of p).s (x_file n) (bytes_eq (z_file n)) ta tb tb2 locks firm.x_state;
@@ -206,7 +206,7 @@ has_prepared first early n p new v ta tb tb2 sfile paired sound moves locks work
       (settled_now first n p new v tb2 m1 past1 sfile paired sound moves entries is1).0;
 }
 
-finished_so : (early first : Bool) (y : Action) (r : Result (Unit {0}) StepFault) (n : List ℕ) (p : Prepared) (o : Outcome) (m : Model) (past : List Model) (ta tb tb2 td : Told) (out out2 out3 err err3 : Option (List ℕ)) → IsSfile n → ta ≡ Tells m past → IsCalm m → IsSafe n (view_of m) → view_of m (z_file n) ≡ None
+finished_so : (early first : Bool) (y : Action) (r : Result (Unit {0}) StepFault) (n : List ℕ) (p : Prepared) (o : Outcome) (m : Model) (past : List Model) (ta tb tb2 td : Told) (out out2 out3 err err3 : Option (List ℕ)) → IsSFileName n → ta ≡ Tells m past → IsCalm m → IsSafe n (view_of m) → view_of m (z_file n) ≡ None
     → IsPreparedBy first n p o (world (Some (locked n (view_of m))) out err) (world (seen tb2) out2 err) → FinishesCommit r n p (world (seen tb2) out2 err) (world (seen td) out3 err3) → Commits r n p tb2 td
     → TouchesOnly (bytes_eq (z_file n)) ta tb → Drafts early n tb tb2 → IsFirmPrepared n p tb tb2 → SettlesEntries n p tb2 → EndsSo y r n (view_of m) m past td out err out3 err3 o
 finished_so early first y r n p o m past ta tb tb2 td out out2 out3 err err3 sfile is calm safe free prepared finishes commits locks working firm entries = by r finishes commits
@@ -254,7 +254,7 @@ finished_so early first y r n p o m past ta tb tb2 td out out2 out3 err err3 sfi
     by (Err Memory) finished committed_so = absurd finished
     by (Err ReadFault) finished committed_so = absurd finished
 
-pub at_finished : (x : Changing) (p : Prepared) (r : Result (Unit {0}) StepFault) (q : Result Prepared StepFault) (n : List ℕ) (left : Option (List ℕ)) (ta tb tb2 td : Told) (out out2 out3 err err3 : Option (List ℕ)) (m : Model) (past : List Model) (i : List ℕ) → IsSfile n → q ≡ Ok p
+pub at_finished : (x : Changing) (p : Prepared) (r : Result (Unit {0}) StepFault) (q : Result Prepared StepFault) (n : List ℕ) (left : Option (List ℕ)) (ta tb tb2 td : Told) (out out2 out3 err err3 : Option (List ℕ)) (m : Model) (past : List Model) (i : List ℕ) → IsSFileName n → q ≡ Ok p
     → Becomes (locked n) (seen ta) (seen tb) → IfSome (seen ta) (λ (v : View). v (z_file n) ≡ None) → PreparesChange x q n left (world (seen tb) out err) (world (seen tb2) out2 err) → FinishesCommit r n p (world (seen tb2) out2 err) (world (seen td) out3 err3) → Commits r n p tb2 td
     → TouchesOnly (bytes_eq (z_file n)) ta tb → Drafts x.early n tb tb2 → IsFirmPrepared n p tb tb2 → SettlesEntries n p tb2 → ta ≡ Tells m past → IsHeard x.takes left i → IsCalm m → IsSafe n (view_of m)
     → MeetsAt (locking x) r n (locking_step x.outcome n i (map (view_of m) (x.named n)) (look (view_of m) n)) (view_of m) m past (scene ta out err) (scene td out3 err3)

@@ -4,7 +4,7 @@ use Rattle.std.specs.Prelude.{nat_lt, remove}
 use Rattle.std.specs.List.{AllByRecursion}
 use Rattle.std.specs.Str.{bytes_eq}
 use Rattle.std.proofs.lemmas.Bool.{and_parts, not-true}
-use Rattle.sccs_base.specs.Name.{IsSfile, p_file, q_file, x_file}
+use Rattle.sccs_base.specs.Name.{IsSFileName, p_file, q_file, x_file}
 use Rattle.sccs_disk.specs.Files.{Content, View}
 use Rattle.sccs_disk.specs.Images.{IsFirm}
 use Rattle.sccs_disk.specs.Told.{Told, seen}
@@ -138,7 +138,7 @@ settled_at n x d p v u new_s read valid undone same is = (
   λ gone. absurd (read_there (v n) (v (p_file n)) x read (sym (ap (λ (b : Bool). chosen (replaced b) (u (x_file n)) (u n)) new_s ∙ same) ∙ gone)),
 )
 
-pub decided_settles : (n : List ℕ) (x : Pending) (d : Decided) (r : Result Prepared StepFault) (o a b : Told) → IsSfile n → a ≡ o → IfSome (seen o) (λ (v : View). AnswersPending (v n) (v (p_file n)) (Ok x))
+pub decided_settles : (n : List ℕ) (x : Pending) (d : Decided) (r : Result Prepared StepFault) (o a b : Told) → IsSFileName n → a ≡ o → IfSome (seen o) (λ (v : View). AnswersPending (v n) (v (p_file n)) (Ok x))
     → AllByRecursion IsEdit d.edits → AllByRecursion (λ e. is_done x.front.header.records e ≡ false) d.edits → PreparesDecided r n d a b → IfOk r (λ p. SettlesEntries n p b)
 decided_settles n x d (Err fault) o a b sfile same read valid undone prepares = tt
 decided_settles n x d (Ok p) o a b sfile same read valid undone prepares =

@@ -1,7 +1,7 @@
 -- Working files that a commit takes, and those that it doesn't.
 use Rattle.std.proofs.Common.{◌≡◌, ◌⊎◌, ℕ, Bool, true, false, ◌||◌, List, drop, Option, None, Some, IfSome, inl, inr, refl, sym, subst, ◌∙◌}
 use Rattle.std.specs.Str.{bytes_eq}
-use Rattle.sccs_base.specs.Name.{IsSfile, p_file, q_file, x_file, y_file, z_file}
+use Rattle.sccs_base.specs.Name.{IsSFileName, p_file, q_file, x_file, y_file, z_file}
 use Rattle.sccs_disk.specs.Files.{Content, View, put}
 use Rattle.sccs_disk.proofs.Puts.{put_other, put_same, same_name}
 use Rattle.sccs_name_files.specs.StepFiles.{AreCleared, Moves, is_working}
@@ -53,7 +53,7 @@ from_gone Keep from to u old other gone = gone
 from_gone Replace from to u old other taken = inl (put_other (put u from None) to from (u from) other ∙ put_same u from None)
 from_gone Remove from to u old other gone = as_it_is old (u from) _ (put_other u to from None other) gone
 
-x_gone : (n : List ℕ) (c : Plan) (u : View) (old : Option Content) → IsSfile n → IsTakenOrGone c.s old (u (x_file n)) → IsGone old (committed n c u (x_file n))
+x_gone : (n : List ℕ) (c : Plan) (u : View) (old : Option Content) → IsSFileName n → IsTakenOrGone c.s old (u (x_file n)) → IsGone old (committed n c u (x_file n))
 x_gone n c u old sfile taken =
     let s : View = s_swapped n c u in
     let p : View = p_swapped n c s in
@@ -61,7 +61,7 @@ x_gone n c u old sfile taken =
     (put_other (g_swapped n c p) (z_file n) (x_file n) None refl ∙ (swapped_other c.g (y_file n) (drop 2 n) p (x_file n) refl (to_g 120 n sfile) ∙ swapped_other c.p (q_file n) (p_file n) s (x_file n) refl refl))
     (from_gone c.s (x_file n) n u old (to_s 120 n sfile refl) taken)
 
-q_gone : (n : List ℕ) (c : Plan) (u : View) (old : Option Content) → IsSfile n → IsTakenOrGone c.p old (u (q_file n)) → IsGone old (committed n c u (q_file n))
+q_gone : (n : List ℕ) (c : Plan) (u : View) (old : Option Content) → IsSFileName n → IsTakenOrGone c.p old (u (q_file n)) → IsGone old (committed n c u (q_file n))
 q_gone n c u old sfile taken =
     let s : View = s_swapped n c u in
     let p : View = p_swapped n c s in
@@ -69,7 +69,7 @@ q_gone n c u old sfile taken =
     (put_other (g_swapped n c p) (z_file n) (q_file n) None refl ∙ swapped_other c.g (y_file n) (drop 2 n) p (q_file n) refl (to_g 113 n sfile))
     (from_gone c.p (q_file n) (p_file n) s old refl (subst (λ (o : Option Content). IsTakenOrGone c.p old o) (sym (swapped_other c.s (x_file n) n u (q_file n) refl (to_s 113 n sfile refl))) taken))
 
-y_gone : (n : List ℕ) (c : Plan) (u : View) (old : Option Content) → IsSfile n → IsTakenOrGone c.g old (u (y_file n)) → IsGone old (committed n c u (y_file n))
+y_gone : (n : List ℕ) (c : Plan) (u : View) (old : Option Content) → IsSFileName n → IsTakenOrGone c.g old (u (y_file n)) → IsGone old (committed n c u (y_file n))
 y_gone n c u old sfile taken =
     let s : View = s_swapped n c u in
     let p : View = p_swapped n c s in
@@ -89,7 +89,7 @@ one_of P x q y k at_x at_q at_y is = by (bytes_eq x k) (bytes_eq q k) (bytes_eq 
     by false false false is_x is_q is_y some = absurd cc
 
 -- the views before the lock, at the commit and at the end
-pub committed_clears : (n : List ℕ) (c : Plan) (f : View → View) (v : View) (ob2 od : Option View) → IsSfile n → Moves (is_working n) f (Some (locked n v)) ob2 → IfSome ob2 (λ (u : View). AreTakenOrGone n c (locked n v) u) → Becomes (committed n c) ob2 od → AreCleared n (Some v) od
+pub committed_clears : (n : List ℕ) (c : Plan) (f : View → View) (v : View) (ob2 od : Option View) → IsSFileName n → Moves (is_working n) f (Some (locked n v)) ob2 → IfSome ob2 (λ (u : View). AreTakenOrGone n c (locked n v) u) → Becomes (committed n c) ob2 od → AreCleared n (Some v) od
 committed_clears n c f v None od sfile moves working done = absurd moves
 committed_clears n c f v (Some u) od sfile moves working done =
     subst (λ (o : Option View). AreCleared n (Some v) o) (sym done) (λ k is.

@@ -2,7 +2,7 @@
 use Rattle.std.proofs.Common.{◌≡◌, ◌||◌, ℕ, Bool, true, false, List, [], drop, None, is_some, sym, ap, subst, ◌∙◌}
 use Rattle.std.specs.Prelude.{IfSome}
 use Rattle.std.specs.Str.{bytes_eq}
-use Rattle.sccs_base.specs.Name.{IsSfile, z_file}
+use Rattle.sccs_base.specs.Name.{IsSFileName, z_file}
 use Rattle.sccs_disk.specs.Files.{View, view_of}
 use Rattle.sccs_disk.specs.Told.{Told, seen}
 use Rattle.sccs_name_files.proofs.Images.{view_image}
@@ -51,7 +51,7 @@ pub unlocked_given_up : (early : Bool) (n : List ℕ) (a b c d : Told) → Touch
 unlocked_given_up early n a b c d lock drafts left = unlocked_early n a d (given_early early n a b c d lock drafts left)
 
 -- behind it
-pub unlocked_finished : (early : Bool) (n : List ℕ) (a b c d : Told) → IsSfile n → is_kept (drop 2 n) ≡ false → IfSome (seen a) (λ (v : View). v (z_file n) ≡ None) → TouchesOnly (bytes_eq (z_file n)) a b → Drafts early n b c → KeepsOthers (is_own n) c d → BeginsUnlocked a d
+pub unlocked_finished : (early : Bool) (n : List ℕ) (a b c d : Told) → IsSFileName n → is_kept (drop 2 n) ≡ false → IfSome (seen a) (λ (v : View). v (z_file n) ≡ None) → TouchesOnly (bytes_eq (z_file n)) a b → Drafts early n b c → KeepsOthers (is_own n) c d → BeginsUnlocked a d
 unlocked_finished early n a b c d sfile plain free lock drafts others = unlocked_own n a d sfile plain free (others_then (is_own n) a c d (early_own n a c (prepared_early early n a b c lock drafts)) others)
 
 -- ---- the files of other names, and a name that is held

@@ -1,14 +1,14 @@
 -- A change as a utility.
 use Rattle.std.proofs.Common.{◌≡◌, ℕ, true, false, List, Option, None, Some, Err, refl}
 use Rattle.std.specs.Prelude.{IsSome, is_none}
-use Rattle.sccs_base.specs.Name.{IsSfile, is_sfile_name, sfile_name_decides}
+use Rattle.sccs_base.specs.Name.{IsSFileName, is_sfile_name, sfile_name_decides}
 use Rattle.sccs_steps.specs.Actions.{KeepsFiles}
 use Rattle.sccs_disk.specs.Files.{Content}
 use Rattle.sccs_name_files.specs.StepFiles.{Files}
 use Rattle.sccs_sid.specs.declared.refusals.Refusal.TheVariants.{Locked}
 use Rattle.sccs_changes.specs.Changes.{Changing, locking, locking_step}
 
-pub is_sfile : (n : List ℕ) → is_sfile_name n ≡ true → IsSfile n
+pub is_sfile : (n : List ℕ) → is_sfile_name n ≡ true → IsSFileName n
 is_sfile n fits = ((sfile_name_decides n).0 fits).1
 
 taken : (o : Option Content) → IsSome o → is_none o ≡ false

@@ -1,5 +1,5 @@
 ghost use Rattle.std.specs.Prelude.{◌≡◌, ℕ, List, Option, Err, true, false, IfOk};
-ghost use Rattle.sccs_base.specs.Name.{IsSfile, z_file};
+ghost use Rattle.sccs_base.specs.Name.{IsSFileName, z_file};
 ghost use Rattle.sccs_disk.specs.Calls.{IsThere};
 ghost use Rattle.sccs_disk.specs.Told.{seen};
 ghost use Rattle.sccs_sid.specs.declared.refusals.Refusal.TheVariants.{Locked};
@@ -36,7 +36,7 @@ pub trait Change {
         out: &mut O,
         disk: &mut D,
     ) -> Result<Prepared, StepFault>
-        requires sfile { IsSfile name.now }
+        requires sfile { IsSFileName name.now }
         requires locked { IsThere (z_file name.now) (D.told disk.old) }
         ensures prepares { (err : Option (List ℕ)) → PreparesChange (change self.now) result name.now (I.left input.old)
             (world (seen (D.told disk.old)) (O.given out.old) err) (world (seen (D.told disk.new)) (O.given out.new) err) }

@@ -1,6 +1,6 @@
 ghost use Rattle.std.specs.Prelude.{All, IfOk, IsErrOf};
 ghost use Rattle.std.specs.Str.{bytes_eq};
-ghost use Rattle.sccs_base.specs.Name.{IsSfile, q_file};
+ghost use Rattle.sccs_base.specs.Name.{IsSFileName, q_file};
 ghost use Rattle.sccs_disk.specs.Images.{IsFirm};
 ghost use Rattle.sccs_disk.specs.Told.{seen};
 ghost use Rattle.sccs_name_files.specs.StepFiles.{Moves};
@@ -22,7 +22,7 @@ pub fn prepare_entries<D: Disk>(
     disk: &mut D,
     name: &Name,
 ) -> Result<NewP, DiskRefusal>
-    requires sfile { IsSfile name.now }
+    requires sfile { IsSFileName name.now }
     requires edits { All IsEdit edits.now }
     ensures entries { IfOk result (λ new. PreparesEntries name.now edits.now new (D.told disk.old) (D.told disk.new)) }
     ensures renewed { IfOk result (λ new. IsRenewed new) }

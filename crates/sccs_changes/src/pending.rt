@@ -1,5 +1,5 @@
 ghost use Rattle.std.specs.Prelude.{◌≢◌, All, Err, IfOk, IfSome};
-ghost use Rattle.sccs_base.specs.Name.{IsSfile, p_file};
+ghost use Rattle.sccs_base.specs.Name.{IsSFileName, p_file};
 ghost use Rattle.sccs_disk.specs.Files.{View};
 ghost use Rattle.sccs_disk.specs.Told.{seen};
 ghost use Rattle.sccs_history.specs.History.{IsHeader, IsSpelled};
@@ -65,7 +65,7 @@ fn check_agreement(alloc: Global, header: &Header, edits: &Edits) -> Result<(), 
 /// and neither file is longer than 1,073,741,824 bytes; it is an s-file, with its sum; each line of the p-file
 /// is an entry, and the entries agree with the delta table. sccsfile(4); System V, p-file.
 pub fn read_pending<D: Disk>(alloc: Global, disk: &mut D, name: &Name) -> Result<Pending, StepFault>
-    requires { IsSfile name.now }
+    requires { IsSFileName name.now }
     ensures told { IfSome (seen (D.told disk.old)) (λ (v : View). AnswersPending (v name.now) (v (p_file name.now)) result) }
     ensures placed { IfOk result (λ p. IsPlaced p.front) }
     ensures rules { IfOk result (λ p. IsHeader p.front.header) }

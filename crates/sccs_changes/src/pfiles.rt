@@ -1,5 +1,5 @@
 ghost use Rattle.std.specs.Prelude.{◌≢◌, All, Err, IfOk, IfSome};
-ghost use Rattle.sccs_base.specs.Name.{IsSfile, p_file};
+ghost use Rattle.sccs_base.specs.Name.{IsSFileName, p_file};
 ghost use Rattle.sccs_disk.specs.Files.{View};
 ghost use Rattle.sccs_disk.specs.Told.{seen};
 ghost use Rattle.sccs_pfile.specs.Entries.{IsEdit};
@@ -33,7 +33,7 @@ fn read_bytes<D: Disk>(alloc: Global, disk: &mut D, file: &Name) -> Result<Bytes
 /// The bytes of the p-file of an s-file's name; none where it isn't there. TooLong comes exactly where it is
 /// longer than 1,073,741,824 bytes.
 pub fn read_p<D: Disk>(alloc: Global, disk: &mut D, name: &Name) -> Result<Bytes, StepFault>
-    requires { IsSfile name.now }
+    requires { IsSFileName name.now }
     ensures told { IfSome (seen (D.told disk.old)) (λ (v : View). Answers (short_bytes (v (p_file name.now))) result) }
     ensures checks { RefusesWithin size_checks result }
     ensures frame { OnlyReads D.told D.faults disk.old disk.new result }
@@ -61,7 +61,7 @@ pub fn entries(alloc: Global, bytes: &[u8]) -> Result<Edits, StepFault>
 /// where it is longer than 1,073,741,824 bytes, BadPfile with the first line, from 1, that is no entry. System
 /// V, p-file.
 pub fn read_pfile<D: Disk>(alloc: Global, disk: &mut D, name: &Name) -> Result<Edits, StepFault>
-    requires { IsSfile name.now }
+    requires { IsSFileName name.now }
     ensures told { IfSome (seen (D.told disk.old)) (λ (v : View). Answers (entries_of (v (p_file name.now))) result) }
     ensures valid { IfOk result (All IsEdit) }
     ensures checks { RefusesWithin pfile_checks result }

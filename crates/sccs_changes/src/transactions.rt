@@ -1,5 +1,5 @@
 ghost use Rattle.std.specs.Prelude.{◌≡◌, ◌⊎◌, ◌≤◌, ℕ, List, Option, [], Err, false, true};
-ghost use Rattle.sccs_base.specs.Name.{IsSfile};
+ghost use Rattle.sccs_base.specs.Name.{IsSFileName};
 ghost use Rattle.sccs_base.specs.Stream.{Rose};
 ghost use Rattle.sccs_disk.specs.Told.{seen};
 ghost use Rattle.sccs_sid.specs.declared.refusals.StepFault.TheVariants as step;
@@ -7,7 +7,7 @@ ghost use Rattle.sccs_steps.specs.Actions.{SpeaksBy, Stepped};
 ghost use Rattle.sccs_steps.specs.Calls.{scene, world};
 ghost use Rattle.sccs_steps.specs.Causes.{Ignores, StepCauses, counts};
 ghost use Rattle.sccs_crash_points.specs.Unlocked.{KeepsOthers, is_own};
-ghost use Rattle.sccs_steps.specs.StepStops.{StepMoments};
+ghost use Rattle.sccs_steps.specs.StepStops.{StepCrashPoints};
 ghost use Rattle.sccs_steps.specs.Unlocked.{StepOthers, StepUnlocked};
 ghost use Rattle.sccs_changes.specs.Changes.{IsReady, locking};
 ghost use Rattle.sccs_name_files.specs.StepFiles.{is_left};
@@ -32,7 +32,7 @@ fn finish<O: Sink, E: Sink, D: Disk>(
     err: &mut E,
     disk: &mut D,
 ) -> Result<(), StepFault>
-    requires sfile { IsSfile name.now }
+    requires sfile { IsSFileName name.now }
     requires ready { IsReady name.now prepared.now (D.told disk.old) }
     ensures finishes { FinishesCommit result name.now prepared.now
         (world (seen (D.told disk.old)) (O.given out.old) (E.given err.old)) (world (seen (D.told disk.new)) (O.given out.new) (E.given err.new)) }
@@ -50,7 +50,7 @@ fn finish<O: Sink, E: Sink, D: Disk>(
 
 // takes away what a change has made, and answers why it gave up; after a disk fault recovery does that
 fn give_up<D: Disk>(fault: StepFault, name: &Name, disk: &mut D) -> Result<(), StepFault>
-    requires { IsSfile name.now }
+    requires { IsSFileName name.now }
     ensures touches { TouchesOnly (is_left name.now) (D.told disk.old) (D.told disk.new) }
     ensures gives_up { (out err : Option (List ℕ)) → GivesUp result fault name.now (world (seen (D.told disk.old)) out err) (world (seen (D.told disk.new)) out err) }
     ensures later { D.faults disk.old ≤ D.faults disk.new }
@@ -78,10 +78,10 @@ pub fn change_file<C: Change, I: Source, O: Sink, E: Sink, D: Disk>(
     err: &mut E,
     disk: &mut D,
 ) -> Result<(), StepFault>
-    requires { IsSfile name.now }
+    requires { IsSFileName name.now }
     ensures step { Stepped (locking (C.change change.now)) result name.now (I.left input.old)
         (scene (D.told disk.old) (O.given out.old) (E.given err.old)) (scene (D.told disk.new) (O.given out.new) (E.given err.new)) }
-    ensures moments { StepMoments (locking (C.change change.now)) result name.now (I.left input.old)
+    ensures crash_points { StepCrashPoints (locking (C.change change.now)) result name.now (I.left input.old)
         (scene (D.told disk.old) (O.given out.old) (E.given err.old)) (scene (D.told disk.new) (O.given out.new) (E.given err.new)) }
     ensures unlocked { StepUnlocked (locking (C.change change.now)) name.now (D.told disk.old) (D.told disk.new) }
     ensures others { StepOthers (locking (C.change change.now)) name.now (D.told disk.old) (D.told disk.new) }

@@ -1,6 +1,6 @@
 ghost use Rattle.std.specs.Prelude.{◌≡◌, ◌≢◌, ◌+◌, ◌<◌, ◌≤◌, ◌^◌, ℕ, suc, List, [], Bool, true, false, None, Some, Option, IfOk, OnOk, drop, length};
 ghost use Rattle.sccs_base.specs.Constants.{file_limit};
-ghost use Rattle.sccs_base.specs.Name.{IsSfile};
+ghost use Rattle.sccs_base.specs.Name.{IsSFileName};
 ghost use Rattle.sccs_disk.specs.Told.{seen};
 ghost use Rattle.sccs_script_laws.specs.Plans.{IsInOrder};
 ghost use Rattle.sccs_history.specs.Body.{HistoryLine, lines_of};
@@ -170,7 +170,7 @@ pub fn examine<D: Disk>(
     compares: bool,
     disk: &mut D,
 ) -> Result<Found, FileFault>
-    requires sfile { IsSfile name.now }
+    requires sfile { IsSFileName name.now }
     requires order { IsInOrder plan }
     ensures frame { ReadsDisk D.told D.faults disk.old disk.new result }
     ensures few { IfOk result (λ found. found.lines ≤ file_limit) }

@@ -1,5 +1,5 @@
 ghost use Rattle.std.specs.Prelude.{◌≡◌, ℕ, List, [], Some, Ok, IfOk, OnOk};
-ghost use Rattle.sccs_base.specs.Name.{IsSfile, x_file};
+ghost use Rattle.sccs_base.specs.Name.{IsSFileName, x_file};
 ghost use Rattle.sccs_disk.specs.Calls.{IsThere};
 ghost use Rattle.sccs_disk.specs.Files.{put};
 ghost use Rattle.sccs_disk.specs.Told.{seen};
@@ -83,7 +83,7 @@ fn append_x<F: BodyFilter + Drop, D: Disk>(
     name: &Name,
     disk: &mut D,
 ) -> Result<Sum, FileFault>
-    requires sfile { IsSfile name.now }
+    requires sfile { IsSFileName name.now }
     requires spelled { IsSpelled header.now }
     requires there { IsThere (x_file name.now) (D.told disk.old) }
     requires own { name_read copying.items ≡ name.now }
@@ -108,7 +108,7 @@ pub fn write_sfile<F: BodyFilter + Drop, D: Disk>(
     name: &Name,
     disk: &mut D,
 ) -> Result<(), FileFault>
-    requires sfile { IsSfile name.now }
+    requires sfile { IsSFileName name.now }
     requires spelled { IsSpelled header.now }
     requires own { name_read copying.items ≡ name.now }
     ensures frame { MakesOneFile (x_file name.now) faults.Failed (D.told disk.old) (D.told disk.new) (D.faults disk.old) (D.faults disk.new) result }
@@ -139,7 +139,7 @@ pub fn replace_header<D: Disk>(
     name: &Name,
     disk: &mut D,
 ) -> Result<(), FileFault>
-    requires sfile { IsSfile name.now }
+    requires sfile { IsSFileName name.now }
     requires spelled { IsSpelled header.now }
     ensures frame { MakesOneFile (x_file name.now) faults.Failed (D.told disk.old) (D.told disk.new) (D.faults disk.old) (D.faults disk.new) result }
     ensures told { (file : List ℕ) (items : List Item) → bytes_in (seen (D.told disk.old)) name.now ≡ Some file

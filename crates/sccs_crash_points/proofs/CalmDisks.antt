@@ -4,7 +4,7 @@ use Rattle.std.proofs.lemmas.List.Elements.{All-append}
 use Rattle.std.proofs.lemmas.Option.{get_or_from_slice_get, slice_get_within}
 use Rattle.std.specs.List.{All}
 use Rattle.std.specs.Prelude.{IfSome, IsSome, slice_get}
-use Rattle.sccs_base.specs.Name.{IsSfile, p_file, q_file, x_file, z_file}
+use Rattle.sccs_base.specs.Name.{IsSFileName, p_file, q_file, x_file, z_file}
 use Rattle.sccs_disk.specs.Effects.{settled}
 use Rattle.sccs_disk.specs.Effects as effects
 use Rattle.sccs_disk.specs.Files.{Content, File, Model, Names, Op, View, names_after, file_at, names, put, view_of}
@@ -108,7 +108,7 @@ q_is (Some Replaced) s s2 p p2 x x2 q q2 z z2 named e there = newer_is q q2 p p2
 q_is (Some Removed) s s2 p p2 x x2 q q2 z z2 named e there = absurd (cc)
 
 -- what is left of a name by the fate that the other view says
-by_fate : (n : List ℕ) (v w : View) → KeepsPairs v w → IsSfile n
+by_fate : (n : List ℕ) (v w : View) → KeepsPairs v w → IsSFileName n
     → recovered_as (fate_at v n) (w n) (w (p_file n)) (w (x_file n)) (w (q_file n)) (is_some (w (z_file n))) ≡ recovered_at v n
 by_fate n v w keeps sfile =
     ap (λ (f : Option Fate). recovered_as f (w n) (w (p_file n)) (w (x_file n)) (w (q_file n)) (is_some (w (z_file n)))) (sym (fate_same n v w keeps.intent))
@@ -151,7 +151,7 @@ firm_looks m w firm full = record {
   };
 }
 
-pub firm_pairs : (m : Model) (w : View) → HasFirm m → Full m w → (n : List ℕ) → IsSfile n → pair_of w n ≡ pair_of (view_of m) n
+pub firm_pairs : (m : Model) (w : View) → HasFirm m → Full m w → (n : List ℕ) → IsSFileName n → pair_of w n ≡ pair_of (view_of m) n
 firm_pairs m w firm full n sfile =
     pair_same _ _ _ _ (firm_stays n m w (firm.s_files n sfile) full) (firm_stays (p_file n) m w (firm.p_files n sfile) full)
 
@@ -225,8 +225,8 @@ pub placed_settled : (n : List ℕ) (c : Content) (m : Model) → IsSettled m �
 placed_settled n c m still = record { files = All-append IsFirmFile m.files (effects.firm c ∷ []) still.files (one_firm c); pending = still.pending }
 
 -- firm files stay so where others change
-pub firms_left : (mine : List ℕ → Bool) (m m2 : Model) → ((n : List ℕ) → IsSfile n → mine n ≡ false) → ((n : List ℕ) → IsSfile n → mine (p_file n) ≡ false) → mine intent_file ≡ false
-    → ((n : List ℕ) → IsSfile n → IsSome (fate_at (view_of m) n) → mine (x_file n) ≡ false) → ((n : List ℕ) → IsSfile n → fate_at (view_of m) n ≡ Some Replaced → mine (q_file n) ≡ false)
+pub firms_left : (mine : List ℕ → Bool) (m m2 : Model) → ((n : List ℕ) → IsSFileName n → mine n ≡ false) → ((n : List ℕ) → IsSFileName n → mine (p_file n) ≡ false) → mine intent_file ≡ false
+    → ((n : List ℕ) → IsSFileName n → IsSome (fate_at (view_of m) n) → mine (x_file n) ≡ false) → ((n : List ℕ) → IsSFileName n → fate_at (view_of m) n ≡ Some Replaced → mine (q_file n) ≡ false)
     → ((k : List ℕ) → mine k ≡ false → file_under m2 k ≡ file_under m k) → HasFirm m → HasFirm m2
 firms_left mine m m2 s p intent x q files firm = record {
   s_files = λ n sfile. still n (s n sfile) (firm.s_files n sfile);
@@ -242,7 +242,7 @@ firms_left mine m m2 s p intent x q files firm = record {
     fate : (n : List ℕ) → fate_at (view_of m2) n ≡ fate_at (view_of m) n
     fate n = fate_same n (view_of m) (view_of m2) (ap (option_map (λ (f : File). f.content)) (files intent_file intent))
 
-pub firms_touched : (mine : List ℕ → Bool) (m m2 : Model) → ((n : List ℕ) → IsSfile n → mine n ≡ false) → ((n : List ℕ) → IsSfile n → mine (p_file n) ≡ false) → mine intent_file ≡ false
-    → ((n : List ℕ) → IsSfile n → IsSome (fate_at (view_of m) n) → mine (x_file n) ≡ false) → ((n : List ℕ) → IsSfile n → fate_at (view_of m) n ≡ Some Replaced → mine (q_file n) ≡ false)
+pub firms_touched : (mine : List ℕ → Bool) (m m2 : Model) → ((n : List ℕ) → IsSFileName n → mine n ≡ false) → ((n : List ℕ) → IsSFileName n → mine (p_file n) ≡ false) → mine intent_file ≡ false
+    → ((n : List ℕ) → IsSFileName n → IsSome (fate_at (view_of m) n) → mine (x_file n) ≡ false) → ((n : List ℕ) → IsSFileName n → fate_at (view_of m) n ≡ Some Replaced → mine (q_file n) ≡ false)
     → Touches mine m m2 → HasFirm m → HasFirm m2
 firms_touched mine m m2 s p intent x q touches firm = firms_left mine m m2 s p intent x q touches.files firm

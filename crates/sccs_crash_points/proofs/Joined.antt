@@ -1,11 +1,11 @@
--- Runs of a story, with the numbers of their moments.
+-- Runs of a story, with the numbers of their crash points.
 use Rattle.std.proofs.Common.{◌≡◌, ◌≤◌, ℕ, List, [], ◌∷◌, ◌++◌, refl, sym, ap, subst, ◌∙◌, arith}
 use Rattle.sccs_disk.specs.Files.{Model, View, view_of}
 use Rattle.sccs_disk.specs.Images.{Allows}
 use Rattle.sccs_disk.specs.Told.{Told, Tells}
 use Rattle.sccs_name_files.specs.Touches.{Each, earlier, newest}
 use Rattle.sccs_name_files.proofs.Touched.{earlier_more, newest_more}
-use Rattle.sccs_crash_points.specs.Moments.{Guarded, Guards, Numbered, Went, Stays}
+use Rattle.sccs_crash_points.specs.CrashPoints.{Guarded, Guards, Numbered, Went, Stays}
 use Rattle.sccs_crash_points.specs.Calm.{KeepsPairs}
 use Rattle.sccs_crash_points.proofs.Recovering.{recovers_then}
 

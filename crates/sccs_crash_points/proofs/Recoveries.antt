@@ -1,6 +1,6 @@
 -- Calls that may begin on any disk whose s-files and p-files are firm, one behind another.
 use Rattle.std.proofs.Common.{◌≡◌, ℕ, List, [], refl, subst, ◌∙◌, arith}
-use Rattle.sccs_base.specs.Name.{IsSfile}
+use Rattle.sccs_base.specs.Name.{IsSFileName}
 use Rattle.sccs_disk.specs.Files.{Model, View, view_of}
 use Rattle.sccs_disk.specs.Images.{Allows}
 use Rattle.sccs_disk.specs.Told.{Told}
@@ -8,7 +8,7 @@ use Rattle.sccs_name_files.specs.StepFiles.{is_working}
 use Rattle.sccs_name_files.specs.Touches.{TouchesOnly, Touching, earlier, newest}
 use Rattle.sccs_name_files.proofs.Images.{view_image}
 use Rattle.sccs_crash_points.specs.Calm.{KeepsPairs}
-use Rattle.sccs_crash_points.specs.Moments.{CanRecover, EndsBefore, IsCalmUnnamed, IsFrom, KeepsCalm, LeavesCalm, LeavesFirm, RecoversOn, Went}
+use Rattle.sccs_crash_points.specs.CrashPoints.{CanRecover, EndsBefore, IsCalmUnnamed, IsFrom, KeepsCalm, LeavesCalm, LeavesFirm, RecoversOn, Went}
 use Rattle.sccs_crash_points.proofs.CalmDisks.{calm_firm}
 use Rattle.sccs_crash_points.proofs.Joined.{newest_is, numbered_as, numbered_now, went_then}
 use Rattle.sccs_crash_points.proofs.Recovering.{fate_same, recovers_then}
@@ -39,7 +39,7 @@ calm_recovers m at = record { firm = calm_firm m at.calm; unnamed = λ w image n
 pub calm_keeps : (a b : Told) → LeavesCalm a b → KeepsCalm a b
 calm_keeps a b leaves = λ m past is at. leaves m past is (calm_recovers m at)
 
-pub working_calm : (n : List ℕ) (a b : Told) → IsSfile n → TouchesOnly (is_working n) a b → KeepsCalm a b
+pub working_calm : (n : List ℕ) (a b : Told) → IsSFileName n → TouchesOnly (is_working n) a b → KeepsCalm a b
 working_calm n a b sfile touches = λ m past is at m2 past2 is2.
     let run : Touching (is_working n) m past b = touches m past is in
     let ends : EndsBefore (view_of m) m past b = ends_working n m past b sfile (record { calm = at.calm; unnamed = at.unnamed n sfile }) run in

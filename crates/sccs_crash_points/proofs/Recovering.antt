@@ -2,12 +2,12 @@
 use Rattle.std.specs.Prelude.{IsSome}
 use Rattle.std.proofs.Common.{◌≡◌, ℕ, Bool, true, false, cond, List, Option, None, Some, is_some, inl, inr, refl, sym, ap, ◌∙◌, subst, ⊎_elim}
 use Rattle.std.specs.Str.{bytes_eq}
-use Rattle.sccs_base.specs.Name.{IsSfile, p_file, q_file, x_file, y_file, z_file}
+use Rattle.sccs_base.specs.Name.{IsSFileName, p_file, q_file, x_file, y_file, z_file}
 use Rattle.sccs_disk.specs.Files.{Content, View, put}
 use Rattle.sccs_disk.proofs.Puts.{name_cases, put_back, put_other, put_same}
 use Rattle.sccs_name_files.specs.StepFiles.{is_early, is_left, is_working}
 use Rattle.sccs_pfile.specs.Recovered.{recovered_pfile}
-use Rattle.sccs_crash_points.specs.Moments.{IsAt, IsAtName, SameElsewhere}
+use Rattle.sccs_crash_points.specs.CrashPoints.{IsAt, IsAtName, SameElsewhere}
 use Rattle.sccs_intents.specs.Intents.{entries_in, fate_in, intent_file}
 use Rattle.sccs_intents.specs.declared.intents.Fate.{Fate}
 use Rattle.sccs_intents.specs.declared.intents.Fate.TheVariants.{Replaced, Removed}
@@ -100,7 +100,7 @@ cleared_other n v k h =
 abbrev pub alone_by : List ℕ → View → Bool → View
 alone_by n v z = cond z (without_name (z_file n) (cleaned n v)) (without_name (y_file n) v)
 
-pub by_lock : (n : List ℕ) (v : View) (z : Bool) → IsSfile n → pair_of (alone_by n v z) n ≡ recovered (v n) (v (p_file n)) z
+pub by_lock : (n : List ℕ) (v : View) (z : Bool) → IsSFileName n → pair_of (alone_by n v z) n ≡ recovered (v n) (v (p_file n)) z
 by_lock n v true sfile =
     pair_same _ (v n) _ (recovered_pfile (v n) (v (p_file n)))
     (put_other (cleaned n v) (z_file n) n None (from_sfile 122 n n sfile refl)
@@ -112,7 +112,7 @@ by_lock n v false sfile = pair_same _ (v n) _ (v (p_file n)) (put_other v (y_fil
 abbrev pub paired : List ℕ → Fate → View → View
 paired n fate v = put (put v n (newer (v (x_file n)) (v n))) (p_file n) (fated fate (v (q_file n)) (v (p_file n)))
 
-by_fate : (n : List ℕ) (v : View) (f : Option Fate) → IsSfile n
+by_fate : (n : List ℕ) (v : View) (f : Option Fate) → IsSFileName n
     → pair_of (recover_by n v f) n ≡ recovered_as f (v n) (v (p_file n)) (v (x_file n)) (v (q_file n)) (is_some (v (z_file n)))
 by_fate n v None sfile = by_lock n v (is_some (v (z_file n))) sfile
 by_fate n v (Some fate) sfile =
@@ -123,7 +123,7 @@ by_fate n v (Some fate) sfile =
     (put_same (put v n (newer (v (x_file n)) (v n))) (p_file n) (fated fate (v (q_file n)) (v (p_file n))))
 
 -- the pair of a name after recovery
-pub recovered_is : (n : List ℕ) (v : View) → IsSfile n → pair_of (recover n v) n ≡ recovered_at v n
+pub recovered_is : (n : List ℕ) (v : View) → IsSFileName n → pair_of (recover n v) n ≡ recovered_at v n
 recovered_is n v sfile = by_fate n v (fate_at v n) sfile
 
 -- recovery changes at most the s-file, the p-file and the files that a step leaves
@@ -144,13 +144,13 @@ other_by n v (Some fate) k s p left =
 pub recover_other : (n : List ℕ) (v : View) (k : List ℕ) → bytes_eq n k ≡ false → bytes_eq (p_file n) k ≡ false → is_left n k ≡ false → recover n v k ≡ v k
 recover_other n v k s p left = other_by n v (fate_at v n) k s p left
 
-pub recover_intent : (n : List ℕ) (v : View) → IsSfile n → recover n v intent_file ≡ v intent_file
+pub recover_intent : (n : List ℕ) (v : View) → IsSFileName n → recover n v intent_file ≡ v intent_file
 recover_intent n v sfile = recover_other n v intent_file (sfile_and_intent n sfile) refl refl
 
-pub recovers_from : (v w : View) → ((n : List ℕ) → IsSfile n → recovered_at w n ≡ recovered_at v n) → RecoversAs v w
+pub recovers_from : (v w : View) → ((n : List ℕ) → IsSFileName n → recovered_at w n ≡ recovered_at v n) → RecoversAs v w
 recovers_from v w same = λ n sfile. recovered_is n w sfile ∙ (same n sfile ∙ sym (recovered_is n v sfile))
 
-pub recovers_to : (v w : View) → RecoversAs v w → (n : List ℕ) → IsSfile n → recovered_at w n ≡ recovered_at v n
+pub recovers_to : (v w : View) → RecoversAs v w → (n : List ℕ) → IsSFileName n → recovered_at w n ≡ recovered_at v n
 recovers_to v w recovers n sfile = sym (recovered_is n w sfile) ∙ (recovers n sfile ∙ recovered_is n v sfile)
 
 pub recovers_itself : (v : View) → RecoversAs v v
@@ -165,15 +165,15 @@ recovers_back v w recovers = λ n sfile. sym (recovers n sfile)
 -- w has the intent of v, and the files at which recovery looks
 pub record SameLooks (v w : View) : Type 0 where
   pub intent : w intent_file ≡ v intent_file
-  pub looks : (n : List ℕ) → IsSfile n → LooksAlike n v w
+  pub looks : (n : List ℕ) → IsSFileName n → LooksAlike n v w
 
 pub looks_recover : (v w : View) → SameLooks v w → RecoversAs v w
 looks_recover v w same = recovers_from v w (λ n sfile. recovered_alike n v w (same.looks n sfile))
 
 -- two views with the same intent, s-files, p-files and z-files recover alike, where new files of named names are the same
-pub same_recovers : (v w : View) → w intent_file ≡ v intent_file → ((n : List ℕ) → IsSfile n → w n ≡ v n) → ((n : List ℕ) → IsSfile n → w (p_file n) ≡ v (p_file n))
-    → ((n : List ℕ) → IsSfile n → is_some (w (z_file n)) ≡ is_some (v (z_file n))) → ((n : List ℕ) → IsSfile n → IsSome (fate_at v n) → w (x_file n) ≡ v (x_file n))
-    → ((n : List ℕ) → IsSfile n → fate_at v n ≡ Some Replaced → w (q_file n) ≡ v (q_file n)) → RecoversAs v w
+pub same_recovers : (v w : View) → w intent_file ≡ v intent_file → ((n : List ℕ) → IsSFileName n → w n ≡ v n) → ((n : List ℕ) → IsSFileName n → w (p_file n) ≡ v (p_file n))
+    → ((n : List ℕ) → IsSFileName n → is_some (w (z_file n)) ≡ is_some (v (z_file n))) → ((n : List ℕ) → IsSFileName n → IsSome (fate_at v n) → w (x_file n) ≡ v (x_file n))
+    → ((n : List ℕ) → IsSFileName n → fate_at v n ≡ Some Replaced → w (q_file n) ≡ v (q_file n)) → RecoversAs v w
 same_recovers v w intent s p z x q = looks_recover v w (record {
   intent = intent;
   looks = λ n sfile. record { fate = fate_same n v w intent; s = s n sfile; p = p n sfile; z = z n sfile; x = x n sfile; q = q n sfile };
@@ -189,7 +189,7 @@ sound_at n v sound =
     ap (λ (f : Option Fate). recovered_as f (v n) (v (p_file n)) (v (x_file n)) (v (q_file n)) (is_some (v (z_file n)))) sound.unnamed
     ∙ sound_recovered (v n) (v (p_file n)) (is_some (v (z_file n))) sound.entries
 
-pub sound_pair : (n : List ℕ) (v : View) → IsSfile n → IsSound n v → pair_of (recover n v) n ≡ pair_of v n
+pub sound_pair : (n : List ℕ) (v : View) → IsSFileName n → IsSound n v → pair_of (recover n v) n ≡ pair_of v n
 sound_pair n v sfile sound = recovered_is n v sfile ∙ sound_at n v sound
 
 -- ---- recovering twice
@@ -232,14 +232,14 @@ once_by : (n : List ℕ) (v : View) (f : Option Fate) → recover_by n (recover_
 once_by n v None = once_alone n v (is_some (v (z_file n))) refl
 once_by n v (Some fate) = once_named n fate v
 
-pub recovered_once : (n : List ℕ) (v : View) → IsSfile n → recover n (recover n v) ≡ recover n v
+pub recovered_once : (n : List ℕ) (v : View) → IsSFileName n → recover n (recover n v) ≡ recover n v
 recovered_once n v sfile =
     ap (λ (f : Option Fate). recover_by n (recover n v) f) (fate_same n v (recover n v) (recover_intent n v sfile)) ∙ once_by n v (fate_at v n)
 
 -- ---- other names
 
 -- a view that has all files as another has them, but for those that a step on a name changes before its commit
-pub early_alike : (n k : List ℕ) (v w : View) → IsSfile n → IsSfile k → bytes_eq n k ≡ false → ((l : List ℕ) → is_early n l ≡ false → w l ≡ v l) → LooksAlike k v w
+pub early_alike : (n k : List ℕ) (v w : View) → IsSFileName n → IsSFileName k → bytes_eq n k ≡ false → ((l : List ℕ) → is_early n l ≡ false → w l ≡ v l) → LooksAlike k v w
 early_alike n k v w sfile other apart same = record {
   fate = fate_same k v w (same intent_file refl);
   s = same k (early_s n k other);
@@ -250,7 +250,7 @@ early_alike n k v w sfile other apart same = record {
 }
 
 -- recovery of a name leaves the files of every other name
-left_alone : (n k : List ℕ) (v : View) → IsSfile n → IsSfile k → bytes_eq n k ≡ false → LooksAlike k v (recover n v)
+left_alone : (n k : List ℕ) (v : View) → IsSFileName n → IsSFileName k → bytes_eq n k ≡ false → LooksAlike k v (recover n v)
 left_alone n k v sfile other apart = record {
   fate = fate_same k v (recover n v) (recover_intent n v sfile);
   s = recover_other n v k apart (from_sfile 112 n k other refl) (left_s n k other);
@@ -261,7 +261,7 @@ left_alone n k v sfile other apart = record {
 }
 
 -- what recovery made recovers as what it was made of
-pub recovers_recovered : (n : List ℕ) (v : View) → IsSfile n → RecoversAs v (recover n v)
+pub recovers_recovered : (n : List ℕ) (v : View) → IsSFileName n → RecoversAs v (recover n v)
 recovers_recovered n v sfile =
     λ k other. ⊎_elim (λ e. subst (λ l. pair_of (recover l (recover n v)) l ≡ pair_of (recover l v) l) e (ap (λ (w : View). pair_of w n) (recovered_once n v sfile)))
     (λ apart. recovered_is k (recover n v) other ∙ (recovered_alike k v (recover n v) (left_alone n k v sfile other apart) ∙ sym (recovered_is k v other)))
@@ -269,7 +269,7 @@ recovers_recovered n v sfile =
 
 -- ---- name by name
 
-same_elsewhere : (n k : List ℕ) (v w : View) → SameElsewhere n v w → IsSfile k → bytes_eq n k ≡ false → LooksAlike k v w
+same_elsewhere : (n k : List ℕ) (v w : View) → SameElsewhere n v w → IsSFileName k → bytes_eq n k ≡ false → LooksAlike k v w
 same_elsewhere n k v w same sfile apart = record {
   fate = fate_same k v w same.intent;
   s = same.s_files k sfile apart;
@@ -279,11 +279,11 @@ same_elsewhere n k v w same sfile apart = record {
   q = λ named. same.siblings 113 k sfile apart;
 }
 
-elsewhere : (n k : List ℕ) (v w : View) → SameElsewhere n v w → IsSfile k → bytes_eq n k ≡ false → pair_of (recover k w) k ≡ pair_of (recover k v) k
+elsewhere : (n k : List ℕ) (v w : View) → SameElsewhere n v w → IsSFileName k → bytes_eq n k ≡ false → pair_of (recover k w) k ≡ pair_of (recover k v) k
 elsewhere n k v w same sfile apart =
     recovered_is k w sfile ∙ (recovered_alike k v w (same_elsewhere n k v w same sfile apart) ∙ sym (recovered_is k v sfile))
 
-pub at_name : (n : List ℕ) (v w : View) → IsSfile n → SameElsewhere n v w → (j : ℕ) (u : View) → IsAt v w j u → IsAtName n v w j u
+pub at_name : (n : List ℕ) (v w : View) → IsSFileName n → SameElsewhere n v w → (j : ℕ) (u : View) → IsAt v w j u → IsAtName n v w j u
 at_name n v w sfile same j u (inl new) = record {
   own = inl (new n sfile);
   others = λ k other apart. new k other ∙ elsewhere n k v w same other apart;

@@ -2,7 +2,7 @@
 use Rattle.std.proofs.Common.{◌≡◌, ◌⊎◌, ◌||◌, ℕ, Bool, true, false, cond, List, [], ◌∷◌, ◌++◌, drop, Option, None, option_map, inl, inr, refl, sym, ap, subst, ◌∙◌, ⊎_elim}
 use Rattle.std.specs.Prelude.{IfSome}
 use Rattle.std.specs.Str.{bytes_eq}
-use Rattle.sccs_base.specs.Name.{IsSfile, p_file, z_file}
+use Rattle.sccs_base.specs.Name.{IsSFileName, p_file, z_file}
 use Rattle.sccs_disk.specs.Calls.{Done, Half}
 use Rattle.sccs_disk.specs.Effects.{pended, settled, whole_effect}
 use Rattle.sccs_disk.specs.Files.{File, Model, Names, Op, Remove, Rename, View, file_at, names, put, view_of}
@@ -163,7 +163,7 @@ others_settled mine m = record { files = λ k h. refl; images = λ w image. (w, 
 
 -- ---- the z-file
 
--- the last of these moments
+-- the last of these crash points
 unlocked_now : (n : List ℕ) (added : List Model) (m : Model) → view_of (newest added m) (z_file n) ≡ None → WasUnlocked n added m
 unlocked_now n [] m is = is
 unlocked_now n (a ∷ added) m is = inl is
@@ -202,7 +202,7 @@ pub unlocked_same : (a b : Told) → b ≡ a → BeginsUnlocked a b
 unlocked_same a b same m past is = record { added = []; is = same ∙ is; changes = tt }
 
 -- a pair that isn't changed, or whose z-file wasn't there at the first moment
-kept_or_unlocked : (mine : List ℕ → Bool) (m : Model) (added : List Model) → ((k : List ℕ) → IsSfile k → ((mine k ≡ false) × (mine (p_file k) ≡ false)) ⊎ (view_of m (z_file k) ≡ None)) → Each (λ m2. SameOthers mine (view_of m) (view_of m2)) added m → ComeUnlocked added m
+kept_or_unlocked : (mine : List ℕ → Bool) (m : Model) (added : List Model) → ((k : List ℕ) → IsSFileName k → ((mine k ≡ false) × (mine (p_file k) ≡ false)) ⊎ (view_of m (z_file k) ≡ None)) → Each (λ m2. SameOthers mine (view_of m) (view_of m2)) added m → ComeUnlocked added m
 kept_or_unlocked mine m [] cases each = tt
 kept_or_unlocked mine m (a ∷ added) cases each = (λ n sfile. ⊎_elim (λ other. inl (same n other)) (λ free. inr (unlocked_first n added m free)) (cases n sfile), kept_or_unlocked mine m added cases each.1)
   where
@@ -212,7 +212,7 @@ kept_or_unlocked mine m (a ∷ added) cases each = (λ n sfile. ⊎_elim (λ oth
     same : (n : List ℕ) → (mine n ≡ false) × (mine (p_file n) ≡ false) → pair_of (view_of a) n ≡ pair_of (view_of (newest added m)) n
     same n other = pair_same _ _ _ _ (each.0 n other.0 ∙ sym (before n other.0)) (each.0 (p_file n) other.1 ∙ sym (before (p_file n) other.1))
 
-pub unlocked_by : (mine : List ℕ → Bool) (a b : Told) → ((m : Model) (past : List Model) → a ≡ Tells m past → (k : List ℕ) → IsSfile k → ((mine k ≡ false) × (mine (p_file k) ≡ false)) ⊎ (view_of m (z_file k) ≡ None)) → KeepsOthers mine a b → BeginsUnlocked a b
+pub unlocked_by : (mine : List ℕ → Bool) (a b : Told) → ((m : Model) (past : List Model) → a ≡ Tells m past → (k : List ℕ) → IsSFileName k → ((mine k ≡ false) × (mine (p_file k) ≡ false)) ⊎ (view_of m (z_file k) ≡ None)) → KeepsOthers mine a b → BeginsUnlocked a b
 unlocked_by mine a b cases keeps m past is = by (keeps m past is)
   where
     by : KeptOthers mine m past b → BeganUnlocked m past b
@@ -230,19 +230,19 @@ pub own_left : (n k : List ℕ) → is_own n k ≡ false → is_left n k ≡ fal
 own_left n k h = early_left n k (own_early n k h)
 
 -- the s-file and the p-file of another name are none of the name's files, where its g-file is none of such a kind
-pub own_s : (n k : List ℕ) → IsSfile k → is_kept (drop 2 n) ≡ false → bytes_eq n k ≡ false → is_own n k ≡ false
+pub own_s : (n k : List ℕ) → IsSFileName k → is_kept (drop 2 n) ≡ false → bytes_eq n k ≡ false → is_own n k ≡ false
 own_s n k sfile plain apart =
     or_from (bytes_eq n k) (bytes_eq (p_file n) k || (bytes_eq (drop 2 n) k || is_early n k)) apart
     (or_from (bytes_eq (p_file n) k) (bytes_eq (drop 2 n) k || is_early n k) (subst (λ l. bytes_eq (p_file n) l ≡ false) (sym (sfile_is k sfile)) refl)
     (or_from (bytes_eq (drop 2 n) k) (is_early n k) (kept_s (drop 2 n) k plain sfile) (early_s n k sfile)))
 
-pub own_p : (n k : List ℕ) → IsSfile n → IsSfile k → is_kept (drop 2 n) ≡ false → bytes_eq n k ≡ false → is_own n (p_file k) ≡ false
+pub own_p : (n k : List ℕ) → IsSFileName n → IsSFileName k → is_kept (drop 2 n) ≡ false → bytes_eq n k ≡ false → is_own n (p_file k) ≡ false
 own_p n k sfile other plain apart =
     or_from (bytes_eq n (p_file k)) (bytes_eq (p_file n) (p_file k) || (bytes_eq (drop 2 n) (p_file k) || is_early n (p_file k))) (to_sfile 112 n k sfile refl)
     (or_from (bytes_eq (p_file n) (p_file k)) (bytes_eq (drop 2 n) (p_file k) || is_early n (p_file k)) (siblings_differ 112 n k sfile other apart)
     (or_from (bytes_eq (drop 2 n) (p_file k)) (is_early n (p_file k)) (kept_p (drop 2 n) k plain other) refl))
 
-pub own_z : (n k : List ℕ) → IsSfile n → IsSfile k → is_kept (drop 2 n) ≡ false → bytes_eq n k ≡ false → is_own n (z_file k) ≡ false
+pub own_z : (n k : List ℕ) → IsSFileName n → IsSFileName k → is_kept (drop 2 n) ≡ false → bytes_eq n k ≡ false → is_own n (z_file k) ≡ false
 own_z n k sfile other plain apart =
     or_from (bytes_eq n (z_file k)) (bytes_eq (p_file n) (z_file k) || (bytes_eq (drop 2 n) (z_file k) || is_early n (z_file k))) (to_sfile 122 n k sfile refl)
     (or_from (bytes_eq (p_file n) (z_file k)) (bytes_eq (drop 2 n) (z_file k) || is_early n (z_file k)) refl
@@ -253,7 +253,7 @@ free_at : (z : List ℕ) (a : Told) (m : Model) (past : List Model) → IfSome (
 free_at z a m past free is = subst (λ (t : Told). IfSome (seen t) (λ (v : View). v z ≡ None)) is free
 
 -- a call that changes the files of a name alone, whose z-file wasn't there
-pub unlocked_own : (n : List ℕ) (a b : Told) → IsSfile n → is_kept (drop 2 n) ≡ false → IfSome (seen a) (λ (v : View). v (z_file n) ≡ None) → KeepsOthers (is_own n) a b → BeginsUnlocked a b
+pub unlocked_own : (n : List ℕ) (a b : Told) → IsSFileName n → is_kept (drop 2 n) ≡ false → IfSome (seen a) (λ (v : View). v (z_file n) ≡ None) → KeepsOthers (is_own n) a b → BeginsUnlocked a b
 unlocked_own n a b sfile plain free keeps =
     unlocked_by (is_own n) a b
     (λ m past is k other. ⊎_elim (λ e. inr (subst (λ l. view_of m (z_file l) ≡ None) e (free_at (z_file n) a m past free is))) (λ apart. inl (own_s n k other plain apart, own_p n k sfile other plain apart)) (name_cases n k)) keeps

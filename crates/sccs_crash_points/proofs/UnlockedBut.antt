@@ -1,7 +1,7 @@
 -- S-files and p-files that change after a moment without their z-file, but for names that are exempt.
 use Rattle.std.proofs.Common.{◌≡◌, ◌⊎◌, ℕ, Bool, true, false, List, [], ◌∷◌, ◌++◌, drop, inl, inr, sym, ap, ◌∙◌, ⊎_elim}
 use Rattle.std.specs.Str.{bytes_eq}
-use Rattle.sccs_base.specs.Name.{IsSfile, p_file}
+use Rattle.sccs_base.specs.Name.{IsSFileName, p_file}
 use Rattle.sccs_disk.specs.Files.{Model, view_of}
 use Rattle.sccs_disk.specs.Told.{Told}
 use Rattle.sccs_disk.proofs.Puts.{name_cases}
@@ -62,7 +62,7 @@ but_then exempt a b c first next m past is = joined (first m past is)
 
 -- ---- a call that changes the files of a name alone, which is exempt
 
-pub kept_but : (exempt mine : List ℕ → Bool) (m : Model) (added : List Model) → ((k : List ℕ) → IsSfile k → exempt k ≡ false → (mine k ≡ false) × (mine (p_file k) ≡ false)) → Each (λ m2. SameOthers mine (view_of m) (view_of m2)) added m
+pub kept_but : (exempt mine : List ℕ → Bool) (m : Model) (added : List Model) → ((k : List ℕ) → IsSFileName k → exempt k ≡ false → (mine k ≡ false) × (mine (p_file k) ≡ false)) → Each (λ m2. SameOthers mine (view_of m) (view_of m2)) added m
     → ComeUnlockedBut exempt added m
 kept_but exempt mine m [] cases each = tt
 kept_but exempt mine m (a ∷ added) cases each = (λ n sfile asked. inl (same n (cases n sfile asked)), kept_but exempt mine m added cases each.1)
@@ -80,7 +80,7 @@ is_another exempt n k has asked = ⊎_elim (λ (e : n ≡ k). absurd (both (sym 
     both : true ≡ false → ⊥
     both e = cc
 
-pub but_own : (exempt : List ℕ → Bool) (n : List ℕ) (a b : Told) → IsSfile n → is_kept (drop 2 n) ≡ false → exempt n ≡ true → KeepsOthers (is_own n) a b → BeginsUnlockedBut exempt a b
+pub but_own : (exempt : List ℕ → Bool) (n : List ℕ) (a b : Told) → IsSFileName n → is_kept (drop 2 n) ≡ false → exempt n ≡ true → KeepsOthers (is_own n) a b → BeginsUnlockedBut exempt a b
 but_own exempt n a b sfile plain has keeps m past is = by (keeps m past is)
   where
     by : KeptOthers (is_own n) m past b → BeganUnlockedBut exempt m past b

@@ -1,4 +1,4 @@
 pub mod Calm
-pub mod Moments
+pub mod CrashPoints
 pub mod Recovery
 pub mod Unlocked

@@ -1,7 +1,7 @@
 -- What recovery makes of the files of a name, and views that recover alike.
 use Rattle.std.specs.Prelude.{◌≡◌, ◌||◌, ℕ, Bool, List, [], ◌∷◌, take, Option, None, Some, is_some, IsSome, if◌then◌else◌}
 use Rattle.std.specs.Str.{bytes_eq}
-use Rattle.sccs_base.specs.Name.{IsSfile, p_file, q_file, x_file, y_file, z_file}
+use Rattle.sccs_base.specs.Name.{IsSFileName, p_file, q_file, x_file, y_file, z_file}
 use Rattle.sccs_disk.specs.Files.{Content, View, put}
 use Rattle.sccs_pfile.specs.Recovered.{recovered_pfile}
 use Rattle.sccs_intents.specs.Intents.{entries_in, fate_in, intent_file}
@@ -64,7 +64,7 @@ pair_of v n = record { s = v n; p = v (p_file n) }
 
 -- w recovers to the s-files and p-files to which v recovers
 abbrev pub RecoversAs : View → View → Type 0
-RecoversAs v w = (n : List ℕ) → IsSfile n → pair_of (recover n w) n ≡ pair_of (recover n v) n
+RecoversAs v w = (n : List ℕ) → IsSFileName n → pair_of (recover n w) n ≡ pair_of (recover n v) n
 
 -- recovery leaves the pair as it is
 abbrev pub IsSettledPair : Pair → Type 0

@@ -1,7 +1,7 @@
 -- Which s-files and p-files a call changes: those that weren't locked when it began, or at a later moment before the change.
 use Rattle.std.specs.Prelude.{◌≡◌, ◌⊎◌, ◌||◌, ℕ, Bool, false, List, [], ◌∷◌, drop, None, IsSome}
 use Rattle.std.specs.Str.{bytes_eq}
-use Rattle.sccs_base.specs.Name.{IsSfile, p_file, z_file}
+use Rattle.sccs_base.specs.Name.{IsSFileName, p_file, z_file}
 use Rattle.sccs_disk.specs.Files.{Model, View, view_of}
 use Rattle.sccs_disk.specs.Images.{Allows, Image, file_under}
 use Rattle.sccs_disk.specs.Told.{Told, Tells}
@@ -47,7 +47,7 @@ pub record KeptHeld (n : List ℕ) (m : Model) (past : List Model) (new : Told) 
 abbrev pub KeepsHeldIn : List ℕ → Told → Told → Type 0
 KeepsHeldIn n old new = (m : Model) (past : List Model) → old ≡ Tells m past → IsHeldIn n m → KeptHeld n m past new
 
--- at one of these moments the name's z-file wasn't there
+-- at one of these crash points the name's z-file wasn't there
 abbrev pub WasUnlocked : List ℕ → List Model → Model → Type 0
 WasUnlocked n [] m = view_of m (z_file n) ≡ None
 WasUnlocked n (a ∷ added) m = (view_of a (z_file n) ≡ None) ⊎ WasUnlocked n added m
@@ -56,7 +56,7 @@ WasUnlocked n (a ∷ added) m = (view_of a (z_file n) ≡ None) ⊎ WasUnlocked 
 abbrev pub ComeUnlocked : List Model → Model → Type 0
 ComeUnlocked [] m = Unit {0}
 ComeUnlocked (a ∷ added) m =
-    ((n : List ℕ) → IsSfile n → (pair_of (view_of a) n ≡ pair_of (view_of (newest added m)) n) ⊎ WasUnlocked n added m) × ComeUnlocked added m
+    ((n : List ℕ) → IsSFileName n → (pair_of (view_of a) n ≡ pair_of (view_of (newest added m)) n) ⊎ WasUnlocked n added m) × ComeUnlocked added m
 
 -- The story went on from a model, and before each change of an s-file or p-file its z-file wasn't there at a moment of the call.
 pub record BeganUnlocked (m : Model) (past : List Model) (new : Told) : Type 0 where
@@ -72,7 +72,7 @@ BeginsUnlocked old new = (m : Model) (past : List Model) → old ≡ Tells m pas
 abbrev pub ComeUnlockedBut : (List ℕ → Bool) → List Model → Model → Type 0
 ComeUnlockedBut exempt [] m = Unit {0}
 ComeUnlockedBut exempt (a ∷ added) m =
-    ((n : List ℕ) → IsSfile n → exempt n ≡ false → (pair_of (view_of a) n ≡ pair_of (view_of (newest added m)) n) ⊎ WasUnlocked n added m)
+    ((n : List ℕ) → IsSFileName n → exempt n ≡ false → (pair_of (view_of a) n ≡ pair_of (view_of (newest added m)) n) ⊎ WasUnlocked n added m)
     × ComeUnlockedBut exempt added m
 
 pub record BeganUnlockedBut (exempt : List ℕ → Bool) (m : Model) (past : List Model) (new : Told) : Type 0 where

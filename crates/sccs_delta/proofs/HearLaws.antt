@@ -3,7 +3,7 @@ use Rattle.std.proofs.Common.{◌≡◌, ◌⊎◌, ℕ, ◌<◌, Bool, true, fa
 use Rattle.std.specs.Prelude.{IfSome, is_some, nat_le}
 use Rattle.std.proofs.lemmas.Bool.{lt-leb}
 use Rattle.sccs_base.specs.Constants.{file_limit}
-use Rattle.sccs_base.specs.Name.{IsSfile}
+use Rattle.sccs_base.specs.Name.{IsSFileName}
 use Rattle.sccs_base.proofs.Gifts.{some_none}
 use Rattle.sccs_disk.specs.Files.{Content, View}
 use Rattle.sccs_sid.specs.Reading.{◌>>=◌}
@@ -77,7 +77,7 @@ unheard_passes i n v ReadFault hears read = read refl
 unheard_passes i n v WriteFault hears read = hears
 unheard_passes i n v DiskFault hears read = tt
 
-pub unheard_prepares : (words : DeltaWords) (stamp : Stamp) (n : List ℕ) (fault : StepFault) (left : Option (List ℕ)) (o o2 : Option View) (out err : Option (List ℕ)) → IsSfile n → o2 ≡ o → ((i : List ℕ) → left ≡ Some i → IfSome o (λ (v : View). HearsScript i (v n) (Err fault)))
+pub unheard_prepares : (words : DeltaWords) (stamp : Stamp) (n : List ℕ) (fault : StepFault) (left : Option (List ℕ)) (o o2 : Option View) (out err : Option (List ℕ)) → IsSFileName n → o2 ≡ o → ((i : List ℕ) → left ≡ Some i → IfSome o (λ (v : View). HearsScript i (v n) (Err fault)))
     → PreparesChange (delta_change words stamp) (Err fault) n left (world o out err) (world o2 out err)
 unheard_prepares words stamp n fault left None o2 out err sfile same hears = tt
 unheard_prepares words stamp n fault left (Some v) o2 out err sfile same hears = λ i is. by i (taken is)

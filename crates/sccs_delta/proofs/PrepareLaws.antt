@@ -4,7 +4,7 @@ use Rattle.std.specs.Prelude.{IfSome, is_some, nat_le, slice_get}
 use Rattle.std.specs.List.{list_any}
 use Rattle.std.proofs.lemmas.Bool.{and_parts}
 use Rattle.sccs_base.specs.Constants.{file_limit}
-use Rattle.sccs_base.specs.Name.{IsSfile, p_file, q_file, x_file, y_file, z_file}
+use Rattle.sccs_base.specs.Name.{IsSFileName, p_file, q_file, x_file, y_file, z_file}
 use Rattle.sccs_base.proofs.Gifts.{gives_none, some_none}
 use Rattle.sccs_disk.specs.Files.{Content, View}
 use Rattle.sccs_disk.specs.Told.{Told, seen}
@@ -81,7 +81,7 @@ sizes_alone : (i : List ℕ) (f : Files) → sizes_checked i f ≡ sizes_by i f.
 unfolding sizes_checked
 sizes_alone i f = refl
 
-sizes_seen : (n i : List ℕ) (v : View) → IsSfile n → sizes_checked i (files_at n v) ≡ sizes_checked i (look v n)
+sizes_seen : (n i : List ℕ) (v : View) → IsSFileName n → sizes_checked i (files_at n v) ≡ sizes_checked i (look v n)
 sizes_seen n i v sfile =
     sizes_alone i (files_at n v)
     ∙ (ap (λ (o : Option Content). sizes_by i o (unlocked n v (p_file n)) (unlocked n v (drop 2 n))) (put_other v (z_file n) n None (from_s 122 n sfile refl))
@@ -89,13 +89,13 @@ sizes_seen n i v sfile =
     ∙ (ap (λ (o : Option Content). sizes_by i (v n) (v (p_file n)) o) (put_other v (z_file n) (drop 2 n) None (from_g 122 n sfile))
     ∙ sym (sizes_alone i (look v n)))))
 
-outcome_seen : (words : DeltaWords) (stamp : Stamp) (n i : List ℕ) (v : View) → IsSfile n → delta_outcome words stamp n i [] (files_at n v) ≡ by_files words stamp n i (files_at n v) (sizes_checked i (look v n)) (pending_of (v n) (v (p_file n)))
+outcome_seen : (words : DeltaWords) (stamp : Stamp) (n i : List ℕ) (v : View) → IsSFileName n → delta_outcome words stamp n i [] (files_at n v) ≡ by_files words stamp n i (files_at n v) (sizes_checked i (look v n)) (pending_of (v n) (v (p_file n)))
 outcome_seen words stamp n i v sfile =
     outcome_is words stamp n i [] (files_at n v)
     ∙ (ap (λ (r : Result Bool Refusal). by_files words stamp n i (files_at n v) r (pending_of (files_at n v).s (files_at n v).p)) (sizes_seen n i v sfile)
     ∙ ap (λ (r : Result Found Refusal). by_files words stamp n i (files_at n v) (sizes_checked i (look v n)) r) (pending_seen n v sfile))
 
-read_as : (words : DeltaWords) (stamp : Stamp) (n i : List ℕ) (v : View) (found : Found) → IsSfile n → sizes_checked i (look v n) ≡ Ok true → pending_of (v n) (v (p_file n)) ≡ Ok found
+read_as : (words : DeltaWords) (stamp : Stamp) (n i : List ℕ) (v : View) (found : Found) → IsSFileName n → sizes_checked i (look v n) ≡ Ok true → pending_of (v n) (v (p_file n)) ≡ Ok found
     → delta_outcome words stamp n i [] (files_at n v) ≡ with_found words stamp n i (files_at n v) found
 read_as words stamp n i v found sfile sizes is =
     outcome_seen words stamp n i v sfile
@@ -118,12 +118,12 @@ Whole n i v = sizes_checked i (look v n) ≡ Ok true
 abbrev PreparesAt : Result Prepared StepFault → DeltaWords → Stamp → List ℕ → List ℕ → View → Option View → Option (List ℕ) → Option (List ℕ) → Type 0
 PreparesAt r words stamp n i v w out err = Prepares r n (delta_outcome words stamp n i [] (look (unlocked n v) n)) (world (Some v) out err) (world w out err)
 
-pub sizes_end : (words : DeltaWords) (stamp : Stamp) (n i : List ℕ) (fault : StepFault) (o o2 : Option View) (out err : Option (List ℕ)) → IsSfile n → o2 ≡ o → IfSome o (λ (v : View). PassesCheck (sizes_checked i (look v n)) (Err fault)) → IfSome o (λ (v : View). PreparesAt (Err fault) words stamp n i v o2 out err)
+pub sizes_end : (words : DeltaWords) (stamp : Stamp) (n i : List ℕ) (fault : StepFault) (o o2 : Option View) (out err : Option (List ℕ)) → IsSFileName n → o2 ≡ o → IfSome o (λ (v : View). PassesCheck (sizes_checked i (look v n)) (Err fault)) → IfSome o (λ (v : View). PreparesAt (Err fault) words stamp n i v o2 out err)
 sizes_end words stamp n i fault None o2 out err sfile same passes = tt
 sizes_end words stamp n i fault (Some v) o2 out err sfile same passes =
     ended_as n _ _ fault v o2 out err same (outcome_seen words stamp n i v sfile) (ends (sizes_checked i (look v n)) (λ x. pending_of (v n) (v (p_file n)) >>= with_found words stamp n i (files_at n v)) fault (passes_answers _ fault passes))
 
-pub pending_end : (words : DeltaWords) (stamp : Stamp) (n i : List ℕ) (fault : StepFault) (o o2 : Option View) (out err : Option (List ℕ)) → IsSfile n → o2 ≡ o → IfSome o (λ (v : View). PassesCheck (sizes_checked i (look v n)) (Ok tt)) → IfSome o (λ (v : View). AnswersPending (v n) (v (p_file n)) (Err fault))
+pub pending_end : (words : DeltaWords) (stamp : Stamp) (n i : List ℕ) (fault : StepFault) (o o2 : Option View) (out err : Option (List ℕ)) → IsSFileName n → o2 ≡ o → IfSome o (λ (v : View). PassesCheck (sizes_checked i (look v n)) (Ok tt)) → IfSome o (λ (v : View). AnswersPending (v n) (v (p_file n)) (Err fault))
     → IfSome o (λ (v : View). PreparesAt (Err fault) words stamp n i v o2 out err)
 pending_end words stamp n i fault None o2 out err sfile same sizes answers = tt
 pending_end words stamp n i fault (Some v) o2 out err sfile same sizes answers =
@@ -131,7 +131,7 @@ pending_end words stamp n i fault (Some v) o2 out err sfile same sizes answers =
     (outcome_seen words stamp n i v sfile ∙ ap (λ (r : Result Bool Refusal). by_files words stamp n i (files_at n v) r (pending_of (v n) (v (p_file n)))) sizes)
     (ends (pending_of (v n) (v (p_file n))) (with_found words stamp n i (files_at n v)) fault (pending_answers (v n) (v (p_file n)) fault answers))
 
-entry_as : (words : DeltaWords) (stamp : Stamp) (n i : List ℕ) (v : View) (x : Pending) (r : Result ChosenEntry Refusal) (read : IsRead n v x) → IsSfile n → Whole n i v → chosen_entry words stamp x.front.header x.edits ≡ r
+entry_as : (words : DeltaWords) (stamp : Stamp) (n i : List ℕ) (v : View) (x : Pending) (r : Result ChosenEntry Refusal) (read : IsRead n v x) → IsSFileName n → Whole n i v → chosen_entry words stamp x.front.header x.edits ≡ r
     → delta_outcome words stamp n i [] (files_at n v) ≡ (r >>= with_entry words stamp n i (files_at n v) (found_of n v x read))
 entry_as words stamp n i v x r read sfile sizes is =
     read_as words stamp n i v (found_of n v x read) sfile sizes read.2
@@ -162,7 +162,7 @@ pub no_orders : (words : DeltaWords) (stamp : Stamp) (header : Header) (edits : 
 no_orders words stamp header edits i c fault finds answers =
     answers_asked words stamp header edits i fault (answers_as _ _ fault (goes (chosen_entry words stamp header edits) (λ e. or_script_fault (orders_of i)) (entry_at c finds.0) finds.2) answers)
 
-pub asked_end : (words : DeltaWords) (stamp : Stamp) (n i : List ℕ) (x : Pending) (fault : StepFault) (o o2 : Option View) (out err : Option (List ℕ)) → IsSfile n → o2 ≡ o → IfSome o (λ (v : View). PassesCheck (sizes_checked i (look v n)) (Ok tt)) → IfSome o (λ (v : View). IsRead n v x)
+pub asked_end : (words : DeltaWords) (stamp : Stamp) (n i : List ℕ) (x : Pending) (fault : StepFault) (o o2 : Option View) (out err : Option (List ℕ)) → IsSFileName n → o2 ≡ o → IfSome o (λ (v : View). PassesCheck (sizes_checked i (look v n)) (Ok tt)) → IfSome o (λ (v : View). IsRead n v x)
     → FindsAsked words stamp x.front.header x.edits i (Err fault) → IfSome o (λ (v : View). PreparesAt (Err fault) words stamp n i v o2 out err)
 asked_end words stamp n i x fault None o2 out err sfile same sizes read finds = tt
 asked_end words stamp n i x fault (Some v) o2 out err sfile same sizes read finds =
@@ -198,20 +198,20 @@ files_written n s p_state g l p u new_s x entries g_is l_is =
     ∙ (ap (λ (o : Option Content). files_of (chosen (replaced p.new_s) (u (x_file n)) (u n)) (chosen p.new_p (u (q_file n)) (u (p_file n))) o l) (sym g_is)
     ∙ ap (λ (o : Option Content). files_of (chosen (replaced p.new_s) (u (x_file n)) (u n)) (chosen p.new_p (u (q_file n)) (u (p_file n))) (chosen p.new_g (u (y_file n)) (u (drop 2 n))) o) (sym l_is)))
 
-g_kept : (n : List ℕ) (keep : Bool) (p : Prepared) (v u : View) → IsSfile n → ((k : List ℕ) → is_working n k ≡ false → u k ≡ v k) → ((y : Option Content) → chosen p.new_g y (v (drop 2 n)) ≡ kept_g keep (v (drop 2 n)))
+g_kept : (n : List ℕ) (keep : Bool) (p : Prepared) (v u : View) → IsSFileName n → ((k : List ℕ) → is_working n k ≡ false → u k ≡ v k) → ((y : Option Content) → chosen p.new_g y (v (drop 2 n)) ≡ kept_g keep (v (drop 2 n)))
     → chosen p.new_g (u (y_file n)) (u (drop 2 n)) ≡ kept_g keep (unlocked n v (drop 2 n))
 g_kept n keep p v u sfile same g =
     ap (λ (o : Option Content). chosen p.new_g (u (y_file n)) o) (same (drop 2 n) (g_no_working n sfile))
     ∙ (g (u (y_file n)) ∙ ap (kept_g keep) (sym (put_other v (z_file n) (drop 2 n) None (from_g 122 n sfile))))
   where
-    g_no_working : (n : List ℕ) → IsSfile n → is_working n (drop 2 n) ≡ false
+    g_no_working : (n : List ℕ) → IsSFileName n → is_working n (drop 2 n) ≡ false
     g_no_working n sfile = rw (from_g 120 n sfile) (rw (from_g 113 n sfile) (from_g 121 n sfile))
 
 -- the delta of an entry, as it was found
 abbrev pub MakesAt : Result (List Sid) Refusal → DeltaWords → Stamp → List ℕ → Header → List Item → List Edit → ChosenEntry → List Order → Told → Told → Result Prepared StepFault → Type 0
 MakesAt checks words stamp n header items edits e orders a b r = MakesDelta checks words stamp n header items edits e orders (list_any has_keyword (apply orders (base_lines items e.base))) a b r
 
-files_seen : (n : List ℕ) (s p_state : Option Content) (keep : Bool) (p : Prepared) (v : View) (w : Option View) → IsSfile n → p.new_s ≡ true → Moves (is_working n) (λ x. x) (Some v) w → IfSome w (λ (u : View). u (x_file n) ≡ s)
+files_seen : (n : List ℕ) (s p_state : Option Content) (keep : Bool) (p : Prepared) (v : View) (w : Option View) → IsSFileName n → p.new_s ≡ true → Moves (is_working n) (λ x. x) (Some v) w → IfSome w (λ (u : View). u (x_file n) ≡ s)
     → IfSome w (λ (u : View). (kept : Option Content) → chosen p.new_p (u (q_file n)) kept ≡ p_state) → ((y : Option Content) → chosen p.new_g y (v (drop 2 n)) ≡ kept_g keep (v (drop 2 n)))
     → IfSome w (λ (u : View). files_of s p_state (kept_g keep (unlocked n v (drop 2 n))) (unlocked n v (l_file n)) ≡ Some (files_after n (plan_of p) u))
 files_seen n s p_state keep p v None sfile new_s moved x entries g = absurd moved
@@ -220,7 +220,7 @@ files_seen n s p_state keep p v (Some u) sfile new_s moved x entries g = files_w
 unwritten : (n text : List ℕ) (v : View) (w : Option View) (out err : Option (List ℕ)) → Moves (is_working n) (λ x. x) (Some v) w → IsUnmade n text (world (Some v) out err) (world w out err)
 unwritten n text v w out err moved = record { view = moved; out = some_none out text }
 
-made : (words : DeltaWords) (stamp : Stamp) (n : List ℕ) (v : View) (found : Found) (e : ChosenEntry) (orders : List Order) (checks : Result (List Sid) Refusal) (r : Result Prepared StepFault) (a b : Told) (o : Outcome) (out err : Option (List ℕ)) → IsSfile n → seen a ≡ Some v → Moves (is_working n) (λ w. w) (Some v) (seen b)
+made : (words : DeltaWords) (stamp : Stamp) (n : List ℕ) (v : View) (found : Found) (e : ChosenEntry) (orders : List Order) (checks : Result (List Sid) Refusal) (r : Result Prepared StepFault) (a b : Told) (o : Outcome) (out err : Option (List ℕ)) → IsSFileName n → seen a ≡ Some v → Moves (is_working n) (λ w. w) (Some v) (seen b)
     → o ≡ (checks >>= with_nulls words stamp n (files_at n v) found e orders) → MakesAt checks words stamp n found.parsed.header found.parsed.items found.edits e orders a b r → Prepares r n o (world (Some v) out err) (world (seen b) out err)
 made words stamp n v found e orders checks (Ok p) a b o out err sfile here moves is makes = record {
   effect = makes_delta words stamp n (files_at n v) found e orders makes.0;
@@ -271,7 +271,7 @@ Writes words stamp n x c orders r a b =
     → IfSome (seen a) (λ (v : View). is_short (v (drop 2 n)) ≡ true
     → MakesAt (script_checked words x.front.header items x.edits (entry_at c e) orders (v (drop 2 n))) words stamp n x.front.header items x.edits (entry_at c e) orders a b r)
 
-written_at : (words : DeltaWords) (stamp : Stamp) (n i : List ℕ) (x : Pending) (c : Chosen) (orders : List Order) (r : Result Prepared StepFault) (a b : Told) (v : View) (out err : Option (List ℕ)) → IsSfile n → seen a ≡ Some v → Whole n i v → (read : IsRead n v x) → IsPlaced x.front → has c.base.set 0 ≡ false
+written_at : (words : DeltaWords) (stamp : Stamp) (n i : List ℕ) (x : Pending) (c : Chosen) (orders : List Order) (r : Result Prepared StepFault) (a b : Told) (v : View) (out err : Option (List ℕ)) → IsSFileName n → seen a ≡ Some v → Whole n i v → (read : IsRead n v x) → IsPlaced x.front → has c.base.set 0 ≡ false
     → FindsEntry words stamp x.front.header x.edits (Ok c) → or_script_fault (orders_of i) ≡ Ok orders → Moves (is_working n) (λ w. w) (Some v) (seen b) → Writes words stamp n x c orders r a b → PreparesAt r words stamp n i v (seen b) out err
 written_at words stamp n i x c orders r a b v out err sfile here sizes read placed zero finds is moves writes =
     let e = entry_at c finds.0 in
@@ -286,7 +286,7 @@ written_at words stamp n i x c orders r a b v out err sfile here sizes read plac
     ∙ ap (λ (g : Option Content). script_checked words read.0.header read.0.items x.edits e orders g >>= with_nulls words stamp n (files_at n v) found e orders) (put_other v (z_file n) (drop 2 n) None (from_g 122 n sfile)))))
     (subst (λ (h : Header). MakesAt (script_checked words h read.0.items x.edits e orders (v (drop 2 n))) words stamp n h read.0.items x.edits e orders a b r) (header_of n v x read) told)
 
-pub delta_written : (words : DeltaWords) (stamp : Stamp) (n i : List ℕ) (x : Pending) (c : Chosen) (orders : List Order) (r : Result Prepared StepFault) (o : Option View) (a b : Told) (out err : Option (List ℕ)) → IsSfile n → seen a ≡ o → IfSome o (λ (v : View). PassesCheck (sizes_checked i (look v n)) (Ok tt)) → IfSome o (λ (v : View). IsRead n v x)
+pub delta_written : (words : DeltaWords) (stamp : Stamp) (n i : List ℕ) (x : Pending) (c : Chosen) (orders : List Order) (r : Result Prepared StepFault) (o : Option View) (a b : Told) (out err : Option (List ℕ)) → IsSFileName n → seen a ≡ o → IfSome o (λ (v : View). PassesCheck (sizes_checked i (look v n)) (Ok tt)) → IfSome o (λ (v : View). IsRead n v x)
     → IsPlaced x.front → has c.base.set 0 ≡ false → FindsEntry words stamp x.front.header x.edits (Ok c) → or_script_fault (orders_of i) ≡ Ok orders → Moves (is_working n) (λ w. w) (seen a) (seen b) → Writes words stamp n x c orders r a b
     → IfSome o (λ (v : View). PreparesAt r words stamp n i v (seen b) out err)
 delta_written words stamp n i x c orders r None a b out err sfile here sizes read placed zero finds is moves writes = tt

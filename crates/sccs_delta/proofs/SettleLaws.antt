@@ -2,7 +2,7 @@
 use Rattle.std.proofs.Common.{◌≡◌, ℕ, suc, ◌+◌, ◌-◌, ◌<◌, Bool, true, false, All, List, length, map, drop, Option, None, Some, Result, Ok, Err, refl, sym, ap, subst, ◌∙◌}
 use Rattle.std.specs.Prelude.{IfOk, IfSome, nat_lt, remove}
 use Rattle.std.proofs.lemmas.Bool.{leb-true}
-use Rattle.sccs_base.specs.Name.{IsSfile, p_file, q_file, x_file}
+use Rattle.sccs_base.specs.Name.{IsSFileName, p_file, q_file, x_file}
 use Rattle.sccs_disk.specs.Files.{Content, View}
 use Rattle.sccs_disk.specs.Told.{Told, seen}
 use Rattle.sccs_sid.specs.declared.moments.Stamp.{Stamp}
@@ -114,7 +114,7 @@ at_view : (o : Option View) (v : View) (P Q : View → Type 0) → o ≡ Some v 
 at_view None v P Q is fact told = tt
 at_view (Some w) v P Q is fact told = let same : w ≡ v = cc in told (subst P (sym same) fact)
 
-settled : (words : DeltaWords) (stamp : Stamp) (n i : List ℕ) (x : Pending) (c : Chosen) (orders : List Order) (p : Prepared) (a b : Told) (v u : View) → IsSfile n → seen a ≡ Some v → seen b ≡ Some u → Alike (is_working n) u v → Whole n i v → (read : IsRead n v x) → IsPlaced x.front → has c.base.set 0 ≡ false
+settled : (words : DeltaWords) (stamp : Stamp) (n i : List ℕ) (x : Pending) (c : Chosen) (orders : List Order) (p : Prepared) (a b : Told) (v u : View) → IsSFileName n → seen a ≡ Some v → seen b ≡ Some u → Alike (is_working n) u v → Whole n i v → (read : IsRead n v x) → IsPlaced x.front → has c.base.set 0 ≡ false
     → IsHeader x.front.header → All IsEdit x.edits → Agrees x.front.header.records x.edits → FindsEntry words stamp x.front.header x.edits (Ok c) → or_script_fault (orders_of i) ≡ Ok orders → Writes words stamp n x c orders (Ok p) a b
     → KeepsEntries n (plan_of p) u × ArePaired (files_after n (plan_of p) u).s (files_after n (plan_of p) u).p
 settled words stamp n i x c orders p a b v u sfile here there alike sizes read placed zero rules valid agree finds is writes =
@@ -139,7 +139,7 @@ settled words stamp n i x c orders p a b v u sfile here there alike sizes read p
       paired_there n p u _ told.2.new_s x_is,
     )
 
-pub delta_entries : (words : DeltaWords) (stamp : Stamp) (n i : List ℕ) (x : Pending) (c : Chosen) (orders : List Order) (r : Result Prepared StepFault) (o : Option View) (a b : Told) → IsSfile n → seen a ≡ o → IfSome o (λ (v : View). PassesCheck (sizes_checked i (look v n)) (Ok tt)) → IfSome o (λ (v : View). IsRead n v x)
+pub delta_entries : (words : DeltaWords) (stamp : Stamp) (n i : List ℕ) (x : Pending) (c : Chosen) (orders : List Order) (r : Result Prepared StepFault) (o : Option View) (a b : Told) → IsSFileName n → seen a ≡ o → IfSome o (λ (v : View). PassesCheck (sizes_checked i (look v n)) (Ok tt)) → IfSome o (λ (v : View). IsRead n v x)
     → IsPlaced x.front → has c.base.set 0 ≡ false → IsHeader x.front.header → All IsEdit x.edits → Agrees x.front.header.records x.edits → FindsEntry words stamp x.front.header x.edits (Ok c) → or_script_fault (orders_of i) ≡ Ok orders
     → Moves (is_working n) (λ w. w) (seen a) (seen b) → Writes words stamp n x c orders r a b → IfOk r (λ p. SettlesEntries n p b)
 delta_entries words stamp n i x c orders (Err fault) o a b sfile here sizes read placed zero rules valid agree finds is moves writes = tt

@@ -12,7 +12,7 @@ use Rattle.sccs_name_files.specs.Touches.{Leaves, TouchesOnly}
 use Rattle.sccs_disk.specs.Calls.{IsThere}
 use Rattle.sccs_disk.specs.Images.{IsFirm}
 use Rattle.sccs_crash_points.proofs.FileNames.{from_g}
-use Rattle.sccs_base.specs.Name.{IsSfile, p_file, q_file, x_file, y_file, z_file}
+use Rattle.sccs_base.specs.Name.{IsSFileName, p_file, q_file, x_file, y_file, z_file}
 use Rattle.sccs_store.proofs.Working.{leaves_from}
 use Rattle.sccs_store.specs.Commits.{Becomes, Needs, chosen, replaced}
 use Rattle.sccs_store.specs.Stops.{OnReplace}
@@ -233,7 +233,7 @@ g_needed n Keep mine b c g y moves needs = tt
 g_needed n Replace mine b c g y moves needs = still_there (y_file n) mine (seen b) (seen c) y moves needs
 g_needed n Remove mine b c g y moves needs = still_there (drop 2 n) mine (seen b) (seen c) g moves needs
 
-pub files_ready : (n : List ℕ) (edits : List Edit) (keep : Bool) (p : Prepared) (a b b2 c : Told) → IsSfile n → b2 ≡ b → p.new_s ≡ true → Moves (bytes_eq (x_file n)) (λ v. v) (seen a) (seen b) → IsThere (x_file n) b → Moves (bytes_eq (q_file n)) (λ v. v) (seen b2) (seen c)
+pub files_ready : (n : List ℕ) (edits : List Edit) (keep : Bool) (p : Prepared) (a b b2 c : Told) → IsSFileName n → b2 ≡ b → p.new_s ≡ true → Moves (bytes_eq (x_file n)) (λ v. v) (seen a) (seen b) → IsThere (x_file n) b → Moves (bytes_eq (q_file n)) (λ v. v) (seen b2) (seen c)
     → PreparesEntries n edits p.new_p b2 c → LeavesG n keep p.new_g b → IsThere (z_file n) a → IsThere (p_file n) a → IsReady n p c
 files_ready n edits keep p a b b2 c sfile same new_s moves_x x moves_q2 entries g z p_there =
     let moves_q = subst (λ t. Moves (bytes_eq (q_file n)) (λ v. v) (seen t) (seen c)) same moves_q2 in record {

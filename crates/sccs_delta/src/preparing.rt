@@ -2,7 +2,7 @@ ghost use Rattle.std.specs.Prelude.{◌≡◌, ◌<◌, ◌≤◌, ◌-◌, ◌^
 ghost use Rattle.std.specs.List.{AllByRecursion, list_any};
 ghost use Rattle.std.specs.Str.{bytes_eq};
 ghost use Rattle.sccs_base.specs.Constants.{file_limit};
-ghost use Rattle.sccs_base.specs.Name.{IsSfile, p_file, q_file, x_file, z_file};
+ghost use Rattle.sccs_base.specs.Name.{IsSFileName, p_file, q_file, x_file, z_file};
 ghost use Rattle.sccs_disk.specs.Calls.{IsThere};
 ghost use Rattle.sccs_disk.specs.Files.{View};
 ghost use Rattle.sccs_disk.specs.Images.{IsFirm};
@@ -82,7 +82,7 @@ fn write_x<D: Disk>(
     file: NewSfile,
     disk: &mut D,
 ) -> Result<(), StepFault>
-    requires sfile { IsSfile name.now }
+    requires sfile { IsSFileName name.now }
     requires spelled { IsSpelled file.header }
     requires own { name_read file.copying.items ≡ name.now }
     ensures told { (bytes : List ℕ) (items : List Item) → bytes_in (seen (D.told disk.old)) name.now ≡ Some bytes
@@ -109,7 +109,7 @@ fn drop_entry<D: Disk>(
     name: &Name,
     disk: &mut D,
 ) -> Result<NewP, StepFault>
-    requires sfile { IsSfile name.now }
+    requires sfile { IsSFileName name.now }
     requires edits { All IsEdit edits }
     requires some { 0 < number }
     requires there { number ≤ length edits }
@@ -141,7 +141,7 @@ fn write_files<D: Disk>(
     said: Said,
     disk: &mut D,
 ) -> Result<Prepared, StepFault>
-    requires sfile { IsSfile name.now }
+    requires sfile { IsSFileName name.now }
     requires spelled { IsSpelled file.header }
     requires own { name_read file.copying.items ≡ name.now }
     requires edits { All IsEdit edits }
@@ -184,7 +184,7 @@ fn make<D: Disk>(
     found: &Found,
     disk: &mut D,
 ) -> Result<Prepared, StepFault>
-    requires sfile { IsSfile name.now }
+    requires sfile { IsSFileName name.now }
     requires moment { IsMoment stamp.now.moment }
     requires spelled { IsSpelled pending.front.header }
     requires edits { All IsEdit pending.edits }
@@ -235,7 +235,7 @@ fn prepare_script<D: Disk>(
     script: &Script,
     disk: &mut D,
 ) -> Result<Prepared, StepFault>
-    requires sfile { IsSfile name.now }
+    requires sfile { IsSFileName name.now }
     requires moment { IsMoment stamp.now.moment }
     requires spelled { IsSpelled pending.front.header }
     requires edits { All IsEdit pending.edits }
@@ -282,7 +282,7 @@ pub fn prepare_delta<D: Disk>(
     script: &[u8],
     disk: &mut D,
 ) -> Result<Prepared, StepFault>
-    requires sfile { IsSfile name.now }
+    requires sfile { IsSFileName name.now }
     requires locked { IsThere (z_file name.now) (D.told disk.old) }
     requires moment { IsMoment stamp.now.moment }
     ensures prepares { (out err : Option (List ℕ)) → IfSome (seen (D.told disk.old)) (λ (v : View).

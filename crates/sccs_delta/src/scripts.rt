@@ -1,7 +1,7 @@
 ghost use Rattle.std.specs.Prelude.{◌≡◌, ◌≢◌, ◌≤◌, ◌-◌, ◌^◌, ℕ, List, true, Ok, Err, IfOk, IfSome, OnOk, drop, is_some, min, IsErr};
 ghost use Rattle.std.specs.List.{AllByRecursion};
 ghost use Rattle.sccs_base.specs.Constants.{file_limit};
-ghost use Rattle.sccs_base.specs.Name.{IsSfile};
+ghost use Rattle.sccs_base.specs.Name.{IsSFileName};
 ghost use Rattle.sccs_disk.specs.Files.{View};
 ghost use Rattle.sccs_disk.specs.Told.{seen};
 ghost use Rattle.sccs_script_laws.specs.Plans.{IsInOrder, plan};
@@ -121,7 +121,7 @@ fn read_base<D: Disk>(
     script: &Script,
     disk: &mut D,
 ) -> Result<Found, StepFault>
-    requires sfile { IsSfile name.now }
+    requires sfile { IsSFileName name.now }
     requires ordered { AllByRecursion (FitsIn (2 ^ 64)) script.now }
     ensures told { (file : List ℕ) (items : List Item) → IsBody (bytes_in (seen (D.told disk.old)) name.now) front.now set.now file items
         → IfSome (seen (D.told disk.old)) (λ (v : View). ReadsBase script.now (select set.now (lines_of items)) (v (drop 2 name.now)) result) }
@@ -190,7 +190,7 @@ pub fn fit<D: Disk>(
     script: &Script,
     disk: &mut D,
 ) -> Result<Found, StepFault>
-    requires sfile { IsSfile name.now }
+    requires sfile { IsSFileName name.now }
     requires ordered { AllByRecursion (FitsIn (2 ^ 64)) script.now }
     ensures told { (file : List ℕ) (items : List Item) → IsBody (bytes_in (seen (D.told disk.old)) name.now) front.now set.now file items
         → IfSome (seen (D.told disk.old)) (λ (v : View). is_short (v (drop 2 name.now)) ≡ true

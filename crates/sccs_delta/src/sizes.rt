@@ -1,5 +1,5 @@
 ghost use Rattle.std.specs.Prelude.{◌≢◌, Err, IfSome};
-ghost use Rattle.sccs_base.specs.Name.{IsSfile};
+ghost use Rattle.sccs_base.specs.Name.{IsSFileName};
 ghost use Rattle.sccs_disk.specs.Files.{View};
 ghost use Rattle.sccs_disk.specs.Told.{seen};
 ghost use Rattle.sccs_name_files.specs.StepFiles.{look};
@@ -62,7 +62,7 @@ fn check_script(script: &[u8]) -> Result<(), StepFault>
 
 /// Whether the s-file is there, and it, the p-file, the g-file and the script aren't longer than files may be.
 pub fn check_sizes<D: Disk>(disk: &mut D, name: &Name, script: &[u8]) -> Result<(), StepFault>
-    requires sfile { IsSfile name.now }
+    requires sfile { IsSFileName name.now }
     ensures told { IfSome (seen (D.told disk.old)) (λ (v : View). PassesCheck (sizes_checked script.now (look v name.now)) result) }
     ensures checks { RefusesWithin delta_checks result }
     ensures frame { OnlyReads D.told D.faults disk.old disk.new result }

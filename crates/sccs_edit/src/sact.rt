@@ -1,5 +1,5 @@
 ghost use Rattle.std.specs.Prelude.{ℕ, All, IfOk, IfSome};
-ghost use Rattle.sccs_base.specs.Name.{IsSfile};
+ghost use Rattle.sccs_base.specs.Name.{IsSFileName};
 ghost use Rattle.sccs_disk.specs.Files.{View};
 ghost use Rattle.sccs_disk.specs.Told.{seen};
 ghost use Rattle.sccs_pfile.specs.Entries.{IsEdit};
@@ -30,7 +30,7 @@ pub struct Sact {
 
 /// The entries of a name's p-file, where its s-file is there.
 pub fn find_edits<D: Disk>(alloc: Global, disk: &mut D, name: &Name) -> Result<Edits, StepFault>
-    requires { IsSfile name.now }
+    requires { IsSFileName name.now }
     ensures told { IfSome (seen (D.told disk.old)) (λ (v : View). Answers (found_edits (look v name.now)) result) }
     ensures valid { IfOk result (All IsEdit) }
     ensures checks { RefusesWithin sact_checks result }

@@ -1,5 +1,5 @@
 ghost use Rattle.std.specs.Prelude.{◌≡◌, ℕ, true, drop, All, IfOk};
-ghost use Rattle.sccs_base.specs.Name.{IsSfile};
+ghost use Rattle.sccs_base.specs.Name.{IsSFileName};
 ghost use Rattle.sccs_disk.specs.Told.{seen};
 ghost use Rattle.sccs_tokens.specs.Written.{ended};
 ghost use Rattle.sccs_pfile.specs.Entries.{IsEdit};
@@ -18,7 +18,7 @@ use std::alloc::Global;
 
 // the module name and LF
 fn module_line(alloc: Global, name: &Name) -> Result<Bytes, Memory>
-    requires { IsSfile name.now }
+    requires { IsSFileName name.now }
     ensures { IfOk result (λ line. line ≡ ended (drop 2 name.now)) }
 {
     let mut line = Vec::new(alloc);
@@ -29,7 +29,7 @@ fn module_line(alloc: Global, name: &Name) -> Result<Bytes, Memory>
 
 // what is printed of a name with entries
 fn pending_text(alloc: Global, whole: bool, name: &Name, edits: &Edits) -> Result<Bytes, Memory>
-    requires sfile { IsSfile name.now }
+    requires sfile { IsSFileName name.now }
     requires valid { All IsEdit edits.now }
     requires some { has_entry edits.now ≡ true }
     ensures { IfOk result (λ text. text ≡ pending_text whole name.now edits.now) }
@@ -49,7 +49,7 @@ fn print_pending<O: Sink>(
     edits: &Edits,
     out: &mut O,
 ) -> Result<bool, StepFault>
-    requires sfile { IsSfile name.now }
+    requires sfile { IsSFileName name.now }
     requires valid { All IsEdit edits.now }
     ensures prints { PrintsPending whole name.now edits.now (O.given out.old) (O.given out.new) result }
     ensures causes { (disk : ℕ) → PrintCauses result (O.faults out.old) (O.faults out.new) disk disk }
@@ -76,7 +76,7 @@ pub fn pending<D: Disk, O: Sink>(
     out: &mut O,
     disk: &mut D,
 ) -> Result<bool, StepFault>
-    requires { IsSfile name.now }
+    requires { IsSFileName name.now }
     ensures meets { MeetsPending whole name.now result (seen (D.told disk.old)) (seen (D.told disk.new)) (O.given out.old) (O.given out.new) }
     ensures same { D.told disk.new ≡ D.told disk.old }
     ensures checks { RefusesWithin sact_checks result }

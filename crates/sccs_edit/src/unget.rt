@@ -1,5 +1,5 @@
 ghost use Rattle.std.specs.Prelude.{◌≡◌, ◌<◌, ◌≤◌, All, Err, IfOk, length};
-ghost use Rattle.sccs_base.specs.Name.{IsSfile, q_file};
+ghost use Rattle.sccs_base.specs.Name.{IsSFileName, q_file};
 ghost use Rattle.sccs_disk.specs.Calls.{IsThere};
 ghost use Rattle.sccs_disk.specs.Told.{seen};
 ghost use Rattle.sccs_pfile.specs.Entries.{IsEdit};
@@ -63,7 +63,7 @@ fn drop_entry<D: Disk>(
     number: u64,
     disk: &mut D,
 ) -> Result<Prepared, StepFault>
-    requires sfile { IsSfile name.now }
+    requires sfile { IsSFileName name.now }
     requires edits { All IsEdit edits }
     requires some { 0 < number }
     requires there { number ≤ length edits }

@@ -2,7 +2,7 @@
 use Rattle.std.proofs.Common.{◌≡◌, ℕ, Bool, true, false, List, [], drop, Option, None, Some, Result, Ok, Err, refl, sym, ap, subst, ◌∙◌}
 use Rattle.std.specs.Prelude.{IfSome}
 use Rattle.std.specs.Result.{IfOk}
-use Rattle.sccs_base.specs.Name.{IsSfile, p_file, z_file}
+use Rattle.sccs_base.specs.Name.{IsSFileName, p_file, z_file}
 use Rattle.sccs_base.specs.Stream.{GivesOk}
 use Rattle.sccs_base.proofs.Gifts.{some_none}
 use Rattle.sccs_disk.specs.Files.{Content, View}
@@ -66,7 +66,7 @@ none_speaks words DiskFault none = tt
 
 module _ (words : GetWords) (stamp : Stamp) (place : List ℕ) (heading : Bool) (n : List ℕ) where
   -- the z-file is no part of what is found
-  unlocked_same : (v : View) → IsSfile n → reserved_of words stamp place n (look (unlocked n v) n) ≡ reserved_of words stamp place n (look v n)
+  unlocked_same : (v : View) → IsSFileName n → reserved_of words stamp place n (look (unlocked n v) n) ≡ reserved_of words stamp place n (look v n)
   unlocked_same v sfile =
       reserved_is words stamp place n (look (unlocked n v) n)
       ∙ (ap (λ (o : Option Content). reserved_from words stamp place n o (unlocked n v (p_file n)) (unlocked n v (drop 2 n))) (put_other v (z_file n) n None (from_s 122 n sfile refl))
@@ -83,7 +83,7 @@ module _ (words : GetWords) (stamp : Stamp) (place : List ℕ) (heading : Bool) 
   unfolding edit_outcome
   outcome_is i named v = refl
 
-  outcome_as : (i : List ℕ) (named : List (Option Content)) (v : View) (r : Result IsReserved Refusal) → IsSfile n → reserved_of words stamp place n (look v n) ≡ r → edit_outcome words stamp place heading n i named (look (unlocked n v) n) ≡ (r >>= λ x. of_found v x)
+  outcome_as : (i : List ℕ) (named : List (Option Content)) (v : View) (r : Result IsReserved Refusal) → IsSFileName n → reserved_of words stamp place n (look v n) ≡ r → edit_outcome words stamp place heading n i named (look (unlocked n v) n) ≡ (r >>= λ x. of_found v x)
   outcome_as i named v r sfile is = outcome_is i named v ∙ ap (λ (r : Result IsReserved Refusal). r >>= λ x. of_found v x) (unlocked_same v sfile ∙ is)
 
   -- ---- a check fails
@@ -91,7 +91,7 @@ module _ (words : GetWords) (stamp : Stamp) (place : List ℕ) (heading : Bool) 
   untouched : (text : List ℕ) (v : View) (out err : Option (List ℕ)) → IsUnmade n text (world (Some v) out err) (world (Some v) out err)
   untouched text v out err = record { view = λ k h. refl; out = some_none out text }
 
-  unfound : (fault : StepFault) (i : List ℕ) (named : List (Option Content)) (v : View) (out err : Option (List ℕ)) → IsSfile n → AnswersReserved words stamp place n (look v n) (Err fault)
+  unfound : (fault : StepFault) (i : List ℕ) (named : List (Option Content)) (v : View) (out err : Option (List ℕ)) → IsSFileName n → AnswersReserved words stamp place n (look v n) (Err fault)
       → Prepares (Err fault) n (edit_outcome words stamp place heading n i named (look (unlocked n v) n)) (world (Some v) out err) (world (Some v) out err)
   unfound (Refused refusal) i named v out err sfile answers = (outcome_as i named v (Err refusal) sfile answers, untouched [] v out err)
   unfound Memory i named v out err sfile answers = untouched _ v out err
@@ -99,7 +99,7 @@ module _ (words : GetWords) (stamp : Stamp) (place : List ℕ) (heading : Bool) 
   unfound ReadFault i named v out err sfile answers = absurd answers
   unfound WriteFault i named v out err sfile answers = absurd answers
 
-  pub unfound_prepares : (fault : StepFault) (left : Option (List ℕ)) (o o2 : Option View) (out err : Option (List ℕ)) → IsSfile n → o2 ≡ o → IfSome o (λ (v : View). AnswersReserved words stamp place n (look v n) (Err fault))
+  pub unfound_prepares : (fault : StepFault) (left : Option (List ℕ)) (o o2 : Option View) (out err : Option (List ℕ)) → IsSFileName n → o2 ≡ o → IfSome o (λ (v : View). AnswersReserved words stamp place n (look v n) (Err fault))
       → PreparesChange (edit_change words stamp place heading) (Err fault) n left (world o out err) (world o2 out err)
   unfound_prepares fault left None o2 out err sfile same answers = tt
   unfound_prepares fault left (Some v) o2 out err sfile same answers = λ i heard.
@@ -114,7 +114,7 @@ module _ (words : GetWords) (stamp : Stamp) (place : List ℕ) (heading : Bool) 
   abbrev made_from : Parsed → Reserved → View → StepEffect
   made_from parsed r v = edit_effect words heading n parsed.header.records (look (unlocked n v) n) r.pending.edits r.edit r.version (lines_got r.version parsed.items)
 
-  found_outcome : (r : Reserved) (i : List ℕ) (v : View) → IsSfile n → (answers : AnswersReserved words stamp place n (look v n) (Ok r)) → edit_outcome words stamp place heading n i [] (look (unlocked n v) n) ≡ Ok (summed words (summary_of answers.0 r) (look (unlocked n v) n) (made_from answers.0 r v))
+  found_outcome : (r : Reserved) (i : List ℕ) (v : View) → IsSFileName n → (answers : AnswersReserved words stamp place n (look v n) (Ok r)) → edit_outcome words stamp place heading n i [] (look (unlocked n v) n) ≡ Ok (summed words (summary_of answers.0 r) (look (unlocked n v) n) (made_from answers.0 r v))
   found_outcome r i v sfile answers = outcome_as i [] v (Ok (record { parsed = answers.0; edits = r.pending.edits; edit = r.edit; version = r.version })) sfile answers.3
 
   abbrev Sums : Reserved → Result (Unit {0}) StepFault → Option View → Option View → Option (List ℕ) → Option (List ℕ) → Option (List ℕ) → Type 0
@@ -125,7 +125,7 @@ module _ (words : GetWords) (stamp : Stamp) (place : List ℕ) (heading : Bool) 
       subst (λ (h : Header). GivesSummary words n (summary_got words h.records r.version) q (world (Some v) out err) (world o2 out2 err)) (shown_header (bytes_at (v n)) answers.0 r.pending.front answers.1) sums
 
   -- the summary failed
-  pub cut_change : (r : Reserved) (fault : StepFault) (left : Option (List ℕ)) (a b c : Told) (out out2 err : Option (List ℕ)) → IsSfile n → b ≡ a → IfSome (seen a) (λ (v : View). AnswersReserved words stamp place n (look v n) (Ok r)) → Sums r (Err fault) (seen b) (seen c) out out2 err
+  pub cut_change : (r : Reserved) (fault : StepFault) (left : Option (List ℕ)) (a b c : Told) (out out2 err : Option (List ℕ)) → IsSFileName n → b ≡ a → IfSome (seen a) (λ (v : View). AnswersReserved words stamp place n (look v n) (Ok r)) → Sums r (Err fault) (seen b) (seen c) out out2 err
       → PreparesChange (edit_change words stamp place heading) (Err fault) n left (world (seen a) out err) (world (seen c) out2 err)
   cut_change r fault left a b c out out2 err sfile same answers sums = by (seen a) answers (subst (λ (t : Told). Sums r (Err fault) (seen t) (seen c) out out2 err) same sums)
     where
@@ -140,7 +140,7 @@ module _ (words : GetWords) (stamp : Stamp) (place : List ℕ) (heading : Bool) 
   as_found r v items = Ok (edit_effect words heading n r.pending.front.header.records (look (unlocked n v) n) r.pending.edits r.edit r.version (lines_got r.version items))
 
   -- the files that are seen behind an l-file
-  sum_new : (parsed : Parsed) (r : Reserved) (printed summary : List ℕ) (v : View) → IsSfile n → (sum_by true printed summary (look (unlocked n v) n) (made_from parsed r v)).new ≡ (made_from parsed r (l_made n summary v)).new
+  sum_new : (parsed : Parsed) (r : Reserved) (printed summary : List ℕ) (v : View) → IsSFileName n → (sum_by true printed summary (look (unlocked n v) n) (made_from parsed r v)).new ≡ (made_from parsed r (l_made n summary v)).new
   sum_new parsed r printed summary v sfile =
       files_same
       (put_other v (z_file n) n None (from_s 122 n sfile refl) ∙ (sym (l_other n summary v n (from_s 121 n sfile refl) (from_s 108 n sfile refl)) ∙ sym (put_other (l_made n summary v) (z_file n) n None (from_s 122 n sfile refl))))
@@ -149,13 +149,13 @@ module _ (words : GetWords) (stamp : Stamp) (place : List ℕ) (heading : Bool) 
       (put_other v (z_file n) (drop 2 n) None (from_g 122 n sfile) ∙ (sym (l_other n summary v (drop 2 n) (from_g 121 n sfile) (from_g 108 n sfile)) ∙ sym (put_other (l_made n summary v) (z_file n) (drop 2 n) None (from_g 122 n sfile)))))
       (sym (put_other (l_made n summary v) (z_file n) (l_file n) None refl ∙ l_there n summary v))
 
-  sum_prepares : (l : Bool) (parsed : Parsed) (r : Reserved) (result : Result Prepared StepFault) (printed summary : List ℕ) (v : View) (o3 : Option View) (out out2 out3 err : Option (List ℕ)) → IsSfile n → GivesOk out out2 printed → Prepares result n (Ok (made_from parsed r (l_by l n summary v))) (world (Some (l_by l n summary v)) out2 err) (world o3 out3 err)
+  sum_prepares : (l : Bool) (parsed : Parsed) (r : Reserved) (result : Result Prepared StepFault) (printed summary : List ℕ) (v : View) (o3 : Option View) (out out2 out3 err : Option (List ℕ)) → IsSFileName n → GivesOk out out2 printed → Prepares result n (Ok (made_from parsed r (l_by l n summary v))) (world (Some (l_by l n summary v)) out2 err) (world o3 out3 err)
       → PreparesBy l result n (Ok (sum_by l printed summary (look (unlocked n v) n) (made_from parsed r v))) (world (Some v) out err) (world o3 out3 err)
   sum_prepares false parsed r result printed summary v o3 out out2 out3 err sfile first prepares = same_prepares n printed summary (look (unlocked n v) n) (made_from parsed r v) (made_from parsed r v) v result o3 out out2 out3 err first prepares
   sum_prepares true parsed r result printed summary v o3 out out2 out3 err sfile first prepares =
       early_prepares n printed summary (look (unlocked n v) n) (made_from parsed r v) (made_from parsed r (l_made n summary v)) v result o3 out out2 out3 err sfile first (refl, refl, refl, refl) (sum_new parsed r printed summary v sfile) prepares
 
-  pub found_change : (r : Reserved) (result : Result Prepared StepFault) (left : Option (List ℕ)) (a b c d : Told) (out out2 out3 err : Option (List ℕ)) → IsSfile n → b ≡ a → IsPlaced r.pending.front → has r.version.set 0 ≡ false → IfSome (seen a) (λ (v : View). AnswersReserved words stamp place n (look v n) (Ok r))
+  pub found_change : (r : Reserved) (result : Result Prepared StepFault) (left : Option (List ℕ)) (a b c d : Told) (out out2 out3 err : Option (List ℕ)) → IsSFileName n → b ≡ a → IsPlaced r.pending.front → has r.version.set 0 ≡ false → IfSome (seen a) (λ (v : View). AnswersReserved words stamp place n (look v n) (Ok r))
       → Sums r (Ok tt) (seen b) (seen c) out out2 err
       → ((v : View) (file : List ℕ) (items : List Item) → seen c ≡ Some v → IsBody (bytes_in (Some v) n) r.pending.front r.version.set file items → Prepares result n (as_found r v items) (world (Some v) out2 err) (world (seen d) out3 err))
       → PreparesChange (edit_change words stamp place heading) result n left (world (seen a) out err) (world (seen d) out3 err)

@@ -3,7 +3,7 @@ use Rattle.std.proofs.Common.{◌≡◌, ℕ, Bool, true, false, List, [], ◌�
 use Rattle.std.specs.Prelude.{IfSome, if◌then◌else◌}
 use Rattle.std.specs.Str.{bytes_eq}
 use Rattle.std.proofs.lemmas.List.Elements.{recursion_from_All}
-use Rattle.sccs_base.specs.Name.{IsSfile, p_file, q_file, y_file, z_file}
+use Rattle.sccs_base.specs.Name.{IsSFileName, p_file, q_file, y_file, z_file}
 use Rattle.sccs_disk.specs.Calls.{IsThere}
 use Rattle.sccs_disk.specs.Files.{Content, View}
 use Rattle.sccs_disk.specs.Images.{IsFirm}
@@ -90,7 +90,7 @@ entries_prepared n edits new_p a b moves entries = record {
     g_kept None = tt
     g_kept (Some v) = λ y. refl
 
-settles_on : (n : List ℕ) (new_p g : NewFile) (report message : List ℕ) (b c : Told) → IsSfile n → Moves (bytes_eq (y_file n)) (λ v. v) (seen b) (seen c) → SettlesEntries n (edit_prepared new_p Keep [] []) b → SettlesEntries n (edit_prepared new_p g report message) c
+settles_on : (n : List ℕ) (new_p g : NewFile) (report message : List ℕ) (b c : Told) → IsSFileName n → Moves (bytes_eq (y_file n)) (λ v. v) (seen b) (seen c) → SettlesEntries n (edit_prepared new_p Keep [] []) b → SettlesEntries n (edit_prepared new_p g report message) c
 settles_on n new_p g report message b c sfile moves settles = by (seen b) (seen c) moves settles
   where
     by : (o o2 : Option View) → Moves (bytes_eq (y_file n)) (λ v. v) o o2 → IfSome o (λ v. IsPaired n v → IsSound n v → KeepsEntries n (plan_of (edit_prepared new_p Keep [] [])) v × ArePaired (files_after n (plan_of (edit_prepared new_p Keep [] [])) v).s (files_after n (plan_of (edit_prepared new_p Keep [] [])) v).p)
@@ -110,7 +110,7 @@ settles_on n new_p g report message b c sfile moves settles = by (seen b) (seen 
           λ none. new ∙ old.1 (sym s ∙ none),
         )
 
-pub edit_settles : (n : List ℕ) (x : Pending) (edit : Edit) (new_p g : NewFile) (report message : List ℕ) (a b c : Told) → IsSfile n → All IsEdit x.edits → IsEdit edit → Agrees x.front.header.records x.edits → lives x.front.header.records edit.made ≡ false
+pub edit_settles : (n : List ℕ) (x : Pending) (edit : Edit) (new_p g : NewFile) (report message : List ℕ) (a b c : Told) → IsSFileName n → All IsEdit x.edits → IsEdit edit → Agrees x.front.header.records x.edits → lives x.front.header.records edit.made ≡ false
     → IfSome (seen a) (λ (v : View). AnswersPending (v n) (v (p_file n)) (Ok x)) → Moves (bytes_eq (q_file n)) (λ v. v) (seen a) (seen b) → Moves (bytes_eq (y_file n)) (λ v. v) (seen b) (seen c) → PreparesEntries n (x.edits ++ edit ∷ []) new_p a b
     → SettlesEntries n (edit_prepared new_p g report message) c
 edit_settles n x edit new_p g report message a b c sfile edits valid agrees free read q y entries =

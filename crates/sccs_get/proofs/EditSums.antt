@@ -3,7 +3,7 @@ use Rattle.std.proofs.Common.{◌≡◌, ℕ, Bool, true, false, ◌||◌, List,
 use Rattle.std.specs.Prelude.{IfSome, IsSome, unwrap_or, if◌then◌else◌}
 use Rattle.std.specs.Result.{IfOk}
 use Rattle.std.specs.Str.{bytes_eq}
-use Rattle.sccs_base.specs.Name.{IsSfile, p_file, q_file, x_file, y_file, z_file}
+use Rattle.sccs_base.specs.Name.{IsSFileName, p_file, q_file, x_file, y_file, z_file}
 use Rattle.sccs_base.specs.Stream.{GivesOk, GivesSome}
 use Rattle.sccs_base.proofs.Gifts.{gives_both, gives_then, some_longer}
 use Rattle.sccs_disk.specs.Calls.{IsThere}
@@ -131,7 +131,7 @@ module _ (n printed summary : List ℕ) (f : Files) (d e : StepEffect) (v : View
       → IsUnmadeBy true n (sum_by true printed summary f d).new (printed ++ d.text) (world (Some v) out err) (world o3 out3 err)
   early_unmade o3 out out2 out3 err first text un = record { view = early_view o3 un.view; out = gives_then out out2 out3 printed d.text first (subst (λ t. GivesSome out2 out3 t) text un.out) }
 
-  early_taken : (p : Prepared) (o3 : Option View) → IsSfile n → IfSome o3 (λ w. AreTakenOrGone n (plan_of p) (l_made n summary v) w) → IfSome o3 (λ w. AreTakenOrGone n (plan_of p) v w)
+  early_taken : (p : Prepared) (o3 : Option View) → IsSFileName n → IfSome o3 (λ w. AreTakenOrGone n (plan_of p) (l_made n summary v) w) → IfSome o3 (λ w. AreTakenOrGone n (plan_of p) v w)
   early_taken p None sfile taken = tt
   early_taken p (Some w) sfile taken = record {
     x = taken_as (plan_of p).s (v (x_file n)) (l_made n summary v (x_file n)) (w (x_file n)) (l_other n summary v (x_file n) refl refl) taken.x;
@@ -139,7 +139,7 @@ module _ (n printed summary : List ℕ) (f : Files) (d e : StepEffect) (v : View
     y = taken_gone (plan_of p).g (v (y_file n)) (l_made n summary v (y_file n)) (w (y_file n)) (l_gone n summary v) taken.y;
   }
 
-  pub early_prepares : (r : Result Prepared StepFault) (o3 : Option View) (out out2 out3 err : Option (List ℕ)) → IsSfile n → GivesOk out out2 printed → same_sum → (sum_by true printed summary f d).new ≡ e.new → Prepares r n (Ok e) (world (Some (l_made n summary v)) out2 err) (world o3 out3 err)
+  pub early_prepares : (r : Result Prepared StepFault) (o3 : Option View) (out out2 out3 err : Option (List ℕ)) → IsSFileName n → GivesOk out out2 printed → same_sum → (sum_by true printed summary f d).new ≡ e.new → Prepares r n (Ok e) (world (Some (l_made n summary v)) out2 err) (world o3 out3 err)
       → PreparesEarly r n (Ok (sum_by true printed summary f d)) (world (Some v) out err) (world o3 out3 err)
   early_prepares (Ok p) o3 out out2 out3 err sfile first alike new prep =
       let same : prep.effect ≡ e = same_effect e prep.effect prep.is in (
@@ -212,7 +212,7 @@ z_behind l n summary a b c same made there = by (seen b) made (subst (λ (t : To
     by None made there = subst (λ (o : Option View). IfSome o (λ (v : View). IsSome (v (z_file n)))) (sym made) tt
     by (Some v) made there = subst (λ (o : Option View). IfSome o (λ (v : View). IsSome (v (z_file n)))) (sym made) (subst IsSome (sym (kept_by l n summary v (z_file n) refl refl)) there)
 
-pub pending_behind : (l : Bool) (n summary : List ℕ) (x : Pending) (a b c : Told) → IsSfile n → b ≡ a → Becomes (λ v. l_by l n summary v) (seen b) (seen c) → IfSome (seen a) (λ (v : View). AnswersPending (v n) (v (p_file n)) (Ok x)) → IfSome (seen c) (λ (v : View). AnswersPending (v n) (v (p_file n)) (Ok x))
+pub pending_behind : (l : Bool) (n summary : List ℕ) (x : Pending) (a b c : Told) → IsSFileName n → b ≡ a → Becomes (λ v. l_by l n summary v) (seen b) (seen c) → IfSome (seen a) (λ (v : View). AnswersPending (v n) (v (p_file n)) (Ok x)) → IfSome (seen c) (λ (v : View). AnswersPending (v n) (v (p_file n)) (Ok x))
 pending_behind l n summary x a b c sfile same made read = by (seen b) made (subst (λ (t : Told). IfSome (seen t) (λ (v : View). AnswersPending (v n) (v (p_file n)) (Ok x))) (sym same) read)
   where
     by : (o : Option View) → Becomes (λ v. l_by l n summary v) o (seen c) → IfSome o (λ (v : View). AnswersPending (v n) (v (p_file n)) (Ok x)) → IfSome (seen c) (λ (v : View). AnswersPending (v n) (v (p_file n)) (Ok x))

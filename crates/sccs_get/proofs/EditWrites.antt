@@ -2,7 +2,7 @@
 use Rattle.std.proofs.Common.{◌≡◌, ℕ, Bool, true, false, List, [], ◌∷◌, ◌++◌, length, drop, Option, None, Some, Ok, Err, inr, refl, sym, ap, subst, ◌∙◌}
 use Rattle.std.specs.Prelude.{IfSome, is_some, if◌then◌else◌}
 use Rattle.std.specs.Str.{bytes_eq}
-use Rattle.sccs_base.specs.Name.{IsSfile, p_file, q_file, x_file, y_file, z_file}
+use Rattle.sccs_base.specs.Name.{IsSFileName, p_file, q_file, x_file, y_file, z_file}
 use Rattle.sccs_base.specs.Stream.{GivesSome}
 use Rattle.sccs_base.proofs.Gifts.{some_none, some_of_whole}
 use Rattle.sccs_disk.specs.Files.{Content, View, put}
@@ -57,7 +57,7 @@ g_chosen b = if b then Replace else Keep
 abbrev y_made : Bool → List ℕ → Content → View → View
 y_made b n c v = if b then put v (y_file n) (Some c) else v
 
-files_made : (b : Bool) (n : List ℕ) (c : Content) (edits : List Edit) (new_p : NewFile) (v u : View) → IsSfile n → ((k : List ℕ) → bytes_eq (q_file n) k ≡ false → u k ≡ v k) → ((old : Option Content) → chosen new_p (u (q_file n)) old ≡ pfile_of edits)
+files_made : (b : Bool) (n : List ℕ) (c : Content) (edits : List Edit) (new_p : NewFile) (v u : View) → IsSFileName n → ((k : List ℕ) → bytes_eq (q_file n) k ≡ false → u k ≡ v k) → ((old : Option Content) → chosen new_p (u (q_file n)) old ≡ pfile_of edits)
     → files_of (unlocked n v n) (pfile_of edits) (if b then Some c else unlocked n v (drop 2 n)) (unlocked n v (l_file n)) ≡ Some (files_after n (plan false new_p (g_chosen b)) (y_made b n c u))
 files_made true n c edits new_p v u sfile same entries =
     files_same (put_other v (z_file n) n None (from_s 122 n sfile refl) ∙ (sym (same n (from_s 113 n sfile refl)) ∙ sym (put_other u (y_file n) n (Some c) (from_s 121 n sfile refl))))
@@ -78,7 +78,7 @@ unsome : (u w : View) → Some u ≡ Some w → u ≡ w
 unsome u w is = cc
 
 -- the body stays where it was while another file changes
-pub body_kept : (n : List ℕ) (front : Front) (set file : List ℕ) (items : List Item) (v : View) (o o2 : Option View) → IsSfile n → o ≡ Some v → Moves (bytes_eq (q_file n)) (λ u. u) o o2 → IsBody (bytes_in (Some v) n) front set file items → IsBody (bytes_in o2 n) front set file items
+pub body_kept : (n : List ℕ) (front : Front) (set file : List ℕ) (items : List Item) (v : View) (o o2 : Option View) → IsSFileName n → o ≡ Some v → Moves (bytes_eq (q_file n)) (λ u. u) o o2 → IsBody (bytes_in (Some v) n) front set file items → IsBody (bytes_in o2 n) front set file items
 body_kept n front set file items v o o2 sfile is moves body = by o2 (subst (λ (w : Option View). Moves (bytes_eq (q_file n)) (λ u. u) w o2) is moves)
   where
     by : (o2 : Option View) → Moves (bytes_eq (q_file n)) (λ u. u) (Some v) o2 → IsBody (bytes_in o2 n) front set file items
@@ -131,7 +131,7 @@ module _ (words : GetWords) (stamp : Stamp) (place : List ℕ) (heading : Bool) 
     abbrev text : List ℕ
     text = given_text words records version lines
 
-    files_at : (new_p g : NewFile) (v : View) (o2 o3 : Option View) → IsSfile n → f ≡ look (unlocked n v) n → g ≡ new_g words → Moves (bytes_eq (q_file n)) (λ u. u) (Some v) o2 → IfSome o2 (λ (u : View). (old : Option Content) → chosen new_p (u (q_file n)) old ≡ pfile_of (edits ++ edit ∷ []))
+    files_at : (new_p g : NewFile) (v : View) (o2 o3 : Option View) → IsSFileName n → f ≡ look (unlocked n v) n → g ≡ new_g words → Moves (bytes_eq (q_file n)) (λ u. u) (Some v) o2 → IfSome o2 (λ (u : View). (old : Option Content) → chosen new_p (u (q_file n)) old ≡ pfile_of (edits ++ edit ∷ []))
         → Becomes (with_y words n text) o2 o3 → IfSome o3 (λ u. effect.new ≡ Some (files_after n (plan false new_p g) u))
     files_at new_p g v None o3 sfile is g_is moves entries given = absurd moves
     files_at new_p g v (Some u) o3 sfile is g_is moves entries given =
@@ -151,7 +151,7 @@ module _ (words : GetWords) (stamp : Stamp) (place : List ℕ) (heading : Bool) 
       y = subst (λ (f : NewFile). IsTakenOrGone f (v (y_file n)) (u (y_file n))) (sym g_is) (y_taken (writes_g words) n (record { bytes = text; writable = stays_writable words }) v x u (q (y_file n) refl) (ap (λ (w : View). w (y_file n)) (unsome u _ given)));
     }
 
-    pub all_prepared : (shown : Shown) (new_p g : NewFile) (report message : List ℕ) (v : View) (o o2 o3 : Option View) (out out2 err : Option (List ℕ)) → IsSfile n → o ≡ Some v → f ≡ look (unlocked n v) n → g ≡ new_g words → is_some version.facts ≡ replaces_keywords words
+    pub all_prepared : (shown : Shown) (new_p g : NewFile) (report message : List ℕ) (v : View) (o o2 o3 : Option View) (out out2 err : Option (List ℕ)) → IsSFileName n → o ≡ Some v → f ≡ look (unlocked n v) n → g ≡ new_g words → is_some version.facts ≡ replaces_keywords words
         → Moves (bytes_eq (q_file n)) (λ u. u) o o2 → IfSome o2 (λ (u : View). (old : Option Content) → chosen new_p (u (q_file n)) old ≡ pfile_of (edits ++ edit ∷ [])) → IfSome o (λ (u : View). IfSome o2 (λ (x : View). IsTakenOrGone new_p (u (q_file n)) (x (q_file n)))) → Moves (bytes_eq (y_file n)) (λ u. u) o2 o3 → GivesVersion words n records version lines (Ok shown) (world o2 out err) (world o3 out2 err)
         → report ≡ said_on_out words (get_report words heading n version.include version.exclude version.sid (Some edit.made) shown.lines)
         → message ≡ said_on_err words (get_report words heading n version.include version.exclude version.sid (Some edit.made) shown.lines) (get_warning words n shown.keywords)

@@ -5,7 +5,7 @@ pub mod EditSums
 pub mod EditWrites
 pub mod EntrySids
 pub mod FoundLaws
-pub mod GetMoments
+pub mod GetCrashPoints
 pub mod GivingLaws
 pub mod LinearLaws
 pub mod LocatedLaws

@@ -2,7 +2,7 @@
 use Rattle.std.proofs.Common.{◌≡◌, ◌⊎◌, ℕ, Bool, true, false, List, [], drop, Option, None, Some, option_map, Result, Ok, Err, inl, inr, refl, sym, ap, subst, ◌∙◌, ⊎_elim}
 use Rattle.std.specs.Prelude.{if◌then◌else◌}
 use Rattle.std.specs.Str.{bytes_eq}
-use Rattle.sccs_base.specs.Name.{IsSfile, p_file, y_file, z_file}
+use Rattle.sccs_base.specs.Name.{IsSFileName, p_file, y_file, z_file}
 use Rattle.sccs_base.specs.Stream.{GivesOk, GivesSome}
 use Rattle.sccs_base.proofs.Gifts.{gives_both, gives_then, some_none, some_of_whole}
 use Rattle.sccs_sid.specs.declared.refusals.StepFault.{StepFault}
@@ -33,10 +33,10 @@ abbrev pub g_put : List ℕ → Content → View → View
 g_put n c v = put v (drop 2 n) (Some c)
 
 -- the name of the g-file isn't that of the s-file
-pub g_and_s : (n : List ℕ) → IsSfile n → bytes_eq (drop 2 n) n ≡ false
+pub g_and_s : (n : List ℕ) → IsSFileName n → bytes_eq (drop 2 n) n ≡ false
 g_and_s n sfile = other_bytes (drop 2 n) n (λ e. absurd (let apart : bytes_eq n n ≡ false = subst (λ k. bytes_eq n k ≡ false) e (s_and_g n sfile) in let same : bytes_eq n n ≡ true = same_bytes n in cc))
 
-pub placed_g : (n : List ℕ) (v : View) (text : List ℕ) (writable : Bool) → IsSfile n → placed v n (with_g (look v n) text writable) ≡ g_put n (record { bytes = text; writable = writable }) v
+pub placed_g : (n : List ℕ) (v : View) (text : List ℕ) (writable : Bool) → IsSFileName n → placed v n (with_g (look v n) text writable) ≡ g_put n (record { bytes = text; writable = writable }) v
 placed_g n v text writable sfile =
     ap (λ (t : View). put (put (put t (drop 2 n) (Some (content text writable))) (p_file n) (v (p_file n))) n (v n)) (ap (λ (u : View). put u (z_file n) (v (z_file n))) (put_back v (l_file n)) ∙ put_back v (z_file n))
     ∙ (ap (λ (t : View). put t n (v n)) (ap (λ x. put (g_put n (content text writable) v) (p_file n) x) (sym (put_other v (drop 2 n) (p_file n) (Some (content text writable)) (to_g 112 n sfile))) ∙ put_back (g_put n (content text writable) v) (p_file n))
@@ -68,7 +68,7 @@ g_by b n v = if b then renamed (y_file n) (drop 2 n) v else v
 abbrev gone_by : Bool → List ℕ → View → View
 gone_by b n v = if b then without_name (y_file n) v else v
 
-pub made_by : (b : Bool) (n text : List ℕ) (writable : Bool) (v : View) (k : List ℕ) → IsSfile n → is_working n k ≡ false → g_by b n (y_by b n (content text writable) v) k ≡ moved v n (new_by b n text writable v) k
+pub made_by : (b : Bool) (n text : List ℕ) (writable : Bool) (v : View) (k : List ℕ) → IsSFileName n → is_working n k ≡ false → g_by b n (y_by b n (content text writable) v) k ≡ moved v n (new_by b n text writable v) k
 made_by true n text writable v k sfile h = placed_y n (content text writable) v k h ∙ sym (ap (λ (t : View). t k) (placed_g n v text writable sfile))
 made_by false n text writable v k sfile h = refl
 
@@ -81,14 +81,14 @@ gone_other true n v k h = put_other v (y_file n) k None h
 gone_other false n v k h = refl
 
 -- the y-file is gone, and other working files are as they were
-working_g : (n k : List ℕ) → IsSfile n → is_working n k ≡ true → bytes_eq (drop 2 n) k ≡ false
+working_g : (n k : List ℕ) → IsSFileName n → is_working n k ≡ true → bytes_eq (drop 2 n) k ≡ false
 working_g n k sfile h =
     ⊎_elim (λ e. absurd (let some : is_working n (drop 2 n) ≡ true = subst (λ l. is_working n l ≡ true) (sym e) h in let none : is_working n (drop 2 n) ≡ false = apart in cc)) (λ other. other) (name_cases (drop 2 n) k)
   where
     apart : is_working n (drop 2 n) ≡ false
     apart = rw (from_g 120 n sfile) (rw (from_g 113 n sfile) (from_g 121 n sfile))
 
-cleared_by : (b : Bool) (n : List ℕ) (c : Content) (v : View) (k : List ℕ) → IsSfile n → is_working n k ≡ true → (g_by b n (y_by b n c v) k ≡ None) ⊎ (g_by b n (y_by b n c v) k ≡ v k)
+cleared_by : (b : Bool) (n : List ℕ) (c : Content) (v : View) (k : List ℕ) → IsSFileName n → is_working n k ≡ true → (g_by b n (y_by b n c v) k ≡ None) ⊎ (g_by b n (y_by b n c v) k ≡ v k)
 cleared_by false n c v k sfile h = inr refl
 cleared_by true n c v k sfile h =
     ⊎_elim (λ e. inl (subst (λ l. placed l ≡ None) e (put_other (put y (y_file n) None) (drop 2 n) (y_file n) (y (y_file n)) (to_g 121 n sfile) ∙ put_same y (y_file n) None)))
@@ -102,7 +102,7 @@ cleared_by true n c v k sfile h =
 
 -- ---- the view at the end
 
-module _ (words : GetWords) (n : List ℕ) (sfile : IsSfile n) where
+module _ (words : GetWords) (n : List ℕ) (sfile : IsSFileName n) where
   abbrev files_new : List ℕ → View → Option Files
   files_new text v = new_by (writes_g words) n text (stays_writable words) v
 

@@ -2,7 +2,7 @@
 use Rattle.std.proofs.Common.{◌≡◌, ◌||◌, ℕ, Bool, true, false, not, List, drop, Option, None, Some, Result, Ok, Err, inl, inr, refl, sym, ap, subst, ◌∙◌}
 use Rattle.std.specs.Prelude.{IfSome}
 use Rattle.std.specs.Str.{bytes_eq}
-use Rattle.sccs_base.specs.Name.{IsSfile, p_file, y_file, z_file}
+use Rattle.sccs_base.specs.Name.{IsSFileName, p_file, y_file, z_file}
 use Rattle.sccs_base.specs.Stream.{GivesOk}
 use Rattle.sccs_sid.specs.Reading.{◌>>=◌}
 use Rattle.sccs_sid.specs.declared.moments.Stamp.{Stamp}
@@ -18,7 +18,7 @@ use Rattle.sccs_grammar.specs.File.{Parsed, answer, file_of}
 use Rattle.sccs_history.specs.declared.headers.Header.{Header}
 use Rattle.sccs_name_files.specs.Touches.{Leaves, TouchesOnly}
 use Rattle.sccs_crash_points.specs.Calm.{IsCalm}
-use Rattle.sccs_crash_points.specs.Moments.{EndsAfter, EndsBefore}
+use Rattle.sccs_crash_points.specs.CrashPoints.{EndsAfter, EndsBefore}
 use Rattle.sccs_crash_points.specs.Recovery.{is_kept}
 use Rattle.sccs_crash_points.specs.Unlocked.{BeginsUnlocked, KeepsHeldIn, KeepsOthers, is_own}
 use Rattle.sccs_crash_points.proofs.FileNames.{from_s, from_sfile, kept_p, kept_s, no_l, no_working, no_y, to_g}
@@ -28,9 +28,9 @@ use Rattle.sccs_changes.specs.Pending.{bytes_at}
 use Rattle.sccs_steps.specs.Actions.{Action, IsHeard, Stepped}
 use Rattle.sccs_steps.specs.Calls.{Meets, scene, world}
 use Rattle.sccs_steps.specs.StepEffects.{Outcome, StepEffect, effect_of}
-use Rattle.sccs_steps.specs.StepStops.{IsSafe, IsSafeFor, StepMoments}
+use Rattle.sccs_steps.specs.StepStops.{IsSafe, IsSafeFor, StepCrashPoints}
 use Rattle.sccs_steps.specs.Unlocked.{StepOthers, StepUnlocked}
-use Rattle.sccs_steps.proofs.ReadingMoments.{reading_moments}
+use Rattle.sccs_steps.proofs.ReadingCrashPoints.{reading_crash_points}
 use Rattle.sccs_steps.proofs.ReadingSteps.{Explains, ends_silent}
 use Rattle.sccs_steps.proofs.SafeImages.{recovers_before}
 use Rattle.sccs_steps.proofs.UnlockedSteps.{others_hold}
@@ -44,7 +44,7 @@ use Rattle.sccs_get.specs.SummaryGiving.{GivesSummary, summed_view}
 use Rattle.sccs_get.specs.SummaryStep.{printed_summary, summary_got, summed, writes_l}
 use Rattle.sccs_get.specs.VersionStep.{LocatedVersion, get_action, get_effect, get_outcome, lines_got, located_of, writes_g}
 use Rattle.sccs_get.specs.declared.steps.Located.{Located}
-use Rattle.sccs_get.proofs.GetMoments.{EndsSo, at_model, before_then, cut_so, finished_before, finished_so, gives_so, touched_before}
+use Rattle.sccs_get.proofs.GetCrashPoints.{EndsSo, at_model, before_then, cut_so, finished_before, finished_so, gives_so, touched_before}
 use Rattle.sccs_get.proofs.ReadyLaws.{ReadiesAt}
 use Rattle.sccs_get.proofs.StepEnds.{finished, gives_up}
 use Rattle.sccs_get.proofs.SummaryLaws.{down_summed, l_by, l_other, part, up_summed, whole, whole_met}
@@ -59,14 +59,14 @@ abbrev pub is_got : List ℕ → List ℕ → Bool
 is_got n k = is_summary n k || bytes_eq (drop 2 n) k
 
 -- none of them is an s-file or a p-file
-apart_s : (n k : List ℕ) → IsSfile k → is_kept (drop 2 n) ≡ false → is_got n k ≡ false
+apart_s : (n k : List ℕ) → IsSFileName k → is_kept (drop 2 n) ≡ false → is_got n k ≡ false
 apart_s n k sfile plain = or_from (is_summary n k) (bytes_eq (drop 2 n) k) (or_from (bytes_eq (y_file n) k) (bytes_eq (l_file n) k) (from_sfile 121 n k sfile refl) (from_sfile 108 n k sfile refl)) (kept_s (drop 2 n) k plain sfile)
 
-apart_p : (n k : List ℕ) → IsSfile k → is_kept (drop 2 n) ≡ false → is_got n (p_file k) ≡ false
+apart_p : (n k : List ℕ) → IsSFileName k → is_kept (drop 2 n) ≡ false → is_got n (p_file k) ≡ false
 apart_p n k sfile plain = or_from (is_summary n (p_file k)) (bytes_eq (drop 2 n) (p_file k)) refl (kept_p (drop 2 n) k plain sfile)
 
 -- nor is its own z-file, and all are its own
-apart_z : (n : List ℕ) → IsSfile n → is_got n (z_file n) ≡ false
+apart_z : (n : List ℕ) → IsSFileName n → is_got n (z_file n) ≡ false
 apart_z n sfile = or_from (is_summary n (z_file n)) (bytes_eq (drop 2 n) (z_file n)) refl (to_g 122 n sfile)
 
 own_got : (n k : List ℕ) → is_own n k ≡ false → is_got n k ≡ false
@@ -113,7 +113,7 @@ pub others_from : (n : List ℕ) (a b c : Told) → b ≡ a → KeepsOthers (is_
 others_from n a b c same others = subst (λ (t : Told). KeepsOthers (is_summary n) t c) same others
 
 -- the s-file is no file of a summary
-same_s : (l : Bool) (n summary : List ℕ) (v : View) → IsSfile n → l_by l n summary v n ≡ v n
+same_s : (l : Bool) (n summary : List ℕ) (v : View) → IsSFileName n → l_by l n summary v n ≡ v n
 same_s false n summary v sfile = refl
 same_s true n summary v sfile = l_other n summary v n (from_s 121 n sfile refl) (from_s 108 n sfile refl)
 
@@ -146,7 +146,7 @@ module _ (words : GetWords) (stamp : Stamp) (place : List ℕ) (heading : Bool) 
 
   -- ---- the files of other names
 
-  pub got_others : (ta td : Told) → IsSfile n → KeepsOthers (is_got n) ta td → StepOthers action n ta td
+  pub got_others : (ta td : Told) → IsSFileName n → KeepsOthers (is_got n) ta td → StepOthers action n ta td
   got_others ta td sfile others = (λ changes. others_wider (is_got n) (is_own n) ta td (own_got n) others, λ changes m past is named. held m past is)
     where
       held : KeepsHeldIn n ta td
@@ -168,8 +168,8 @@ module _ (words : GetWords) (stamp : Stamp) (place : List ℕ) (heading : Bool) 
       by None is answers = tt
       by (Some v) is answers = λ i heard. ends_silent v (seen td) n (outcome_at v) fault out err is (located_explains v fault answers)
 
-  pub located_moments : (fault : StepFault) (left : Option (List ℕ)) (ta td : Told) (out err : Option (List ℕ)) → IsSfile n → td ≡ ta → IfSome (seen ta) (λ (v : View). AnswersLocated words stamp place n (look v n) (Err fault)) → StepMoments action (Err fault) n left (scene ta out err) (scene td out err)
-  located_moments fault left ta td out err sfile same answers = λ m past i is heard calm may.
+  pub located_crash_points : (fault : StepFault) (left : Option (List ℕ)) (ta td : Told) (out err : Option (List ℕ)) → IsSFileName n → td ≡ ta → IfSome (seen ta) (λ (v : View). AnswersLocated words stamp place n (look v n) (Err fault)) → StepCrashPoints action (Err fault) n left (scene ta out err) (scene td out err)
+  located_crash_points fault left ta td out err sfile same answers = λ m past i is heard calm may.
       at_model words stamp place heading n sfile (Err fault) ta td out out err err m past is
       (by fault (view_of m) m past (ap seen (same ∙ is)) (subst (λ (t : Told). IfSome (seen t) (λ (v : View). AnswersLocated words stamp place n (look v n) (Err fault))) is answers) may (same_before m past td calm (same ∙ is)))
     where
@@ -186,12 +186,12 @@ module _ (words : GetWords) (stamp : Stamp) (place : List ℕ) (heading : Bool) 
 
   -- ---- where no file is written
 
-  pub read_moments : (r : Result (Unit {0}) StepFault) (left : Option (List ℕ)) (ta td : Told) (out out2 err err2 : Option (List ℕ)) → writes ≡ false → td ≡ ta → Stepped action r n left (scene ta out err) (scene td out2 err2) → StepMoments action r n left (scene ta out err) (scene td out2 err2)
-  read_moments r left ta td out out2 err err2 none same step = reading_moments action r n left (scene ta out err) (scene td out2 err2) (get_keeps words stamp place heading) (not_from_false writes none) same step
+  pub read_crash_points : (r : Result (Unit {0}) StepFault) (left : Option (List ℕ)) (ta td : Told) (out out2 err err2 : Option (List ℕ)) → writes ≡ false → td ≡ ta → Stepped action r n left (scene ta out err) (scene td out2 err2) → StepCrashPoints action r n left (scene ta out err) (scene td out2 err2)
+  read_crash_points r left ta td out out2 err err2 none same step = reading_crash_points action r n left (scene ta out err) (scene td out2 err2) (get_keeps words stamp place heading) (not_from_false writes none) same step
 
   -- ---- all is found
 
-  module _ (sfile : IsSfile n) (x : Located) where
+  module _ (sfile : IsSFileName n) (x : Located) where
     abbrev summary_of : Parsed → List ℕ
     summary_of parsed = summary_got words parsed.header.records x.found
 
@@ -286,11 +286,11 @@ module _ (words : GetWords) (stamp : Stamp) (place : List ℕ) (heading : Bool) 
         by None found sums = tt
         by (Some v) found sums = λ i heard. subst (λ (o : Outcome). Meets (λ (done : Unit {0}). 0) r n o (world (Some v) out err) (world (seen td) out2 err)) (sym (found_outcome v found)) (at_view v found (sums_as (Err fault) v (seen tb) out out2 err found sums) gives)
 
-    -- ---- its moments, where a file is written
+    -- ---- its crash points, where a file is written
 
-    pub finished_moments : (r : Result (Unit {0}) StepFault) (p : Prepared) (left : Option (List ℕ)) (ta tb tc td : Told) (out out2 out3 out4 err err2 : Option (List ℕ)) → writes ≡ true → FoundAt (seen ta) → Sums (Ok tt) (seen ta) (seen tb) out out2 err → ReadiesAt words heading n x.front x.found (seen tb) (seen tc) (Ok p) out2 out3 err
-        → FinishesGet words n p r (world (seen tc) out3 err) (world (seen td) out4 err2) → LosesNothing ta tb → PlacesG words n r tc td → TouchesOnly (bytes_eq (y_file n)) tb tc → (writes_g words ≡ true → Leaves (IsFirm (y_file n)) tb tc) → (writes_g words ≡ false → td ≡ tb) → StepMoments action r n left (scene ta out err) (scene td out4 err2)
-    finished_moments r p left ta tb tc td out out2 out3 out4 err err2 changes found sums readies finishes loses places touches firm same = λ m past i is heard calm may.
+    pub finished_crash_points : (r : Result (Unit {0}) StepFault) (p : Prepared) (left : Option (List ℕ)) (ta tb tc td : Told) (out out2 out3 out4 err err2 : Option (List ℕ)) → writes ≡ true → FoundAt (seen ta) → Sums (Ok tt) (seen ta) (seen tb) out out2 err → ReadiesAt words heading n x.front x.found (seen tb) (seen tc) (Ok p) out2 out3 err
+        → FinishesGet words n p r (world (seen tc) out3 err) (world (seen td) out4 err2) → LosesNothing ta tb → PlacesG words n r tc td → TouchesOnly (bytes_eq (y_file n)) tb tc → (writes_g words ≡ true → Leaves (IsFirm (y_file n)) tb tc) → (writes_g words ≡ false → td ≡ tb) → StepCrashPoints action r n left (scene ta out err) (scene td out4 err2)
+    finished_crash_points r p left ta tb tc td out out2 out3 out4 err err2 changes found sums readies finishes loses places touches firm same = λ m past i is heard calm may.
         at_model words stamp place heading n sfile r ta td out out4 err err2 m past is
         (by m past is calm (may (not_from_true writes changes)) (summed_at (view_of m) (seen tb) out out2 err (subst (λ (t : Told). FoundAt (seen t)) is found) (subst (λ (t : Told). Sums (Ok tt) (seen t) (seen tb) out out2 err) is sums)))
       where
@@ -303,9 +303,9 @@ module _ (words : GetWords) (stamp : Stamp) (place : List ℕ) (heading : Bool) 
             finished_before words stamp place heading n sfile r p (RestAt at.parsed (view_of m)) (view_of m1) tb tc td out2 out3 out4 err err2 m1 past1 is1 calm1 safe.plain
             (subst (λ (o : Option View). IsReadied words n p (RestAt at.parsed (view_of m)) (world o out2 err) (world (seen tc) out3 err)) (sym at.told ∙ ap seen is1) ready) finishes places touches firm same)))
 
-    pub given_up_moments : (fault : StepFault) (r : Result (Unit {0}) StepFault) (left : Option (List ℕ)) (ta tb tc td : Told) (out out2 out3 err : Option (List ℕ)) → FoundAt (seen ta) → Sums (Ok tt) (seen ta) (seen tb) out out2 err → ReadiesAt words heading n x.front x.found (seen tb) (seen tc) (Err fault) out2 out3 err
-        → Moves (bytes_eq (y_file n)) (λ u. u) (seen tb) (seen tc) → (writes_g words ≡ false → tc ≡ tb) → GivesUpGet (writes_g words) n fault r (seen tc) (seen td) → LosesNothing ta tb → TouchesOnly (bytes_eq (y_file n)) tb td → StepMoments action r n left (scene ta out err) (scene td out3 err)
-    given_up_moments fault r left ta tb tc td out out2 out3 err found sums readies moves same gives loses touches = λ m past i is heard calm may.
+    pub given_up_crash_points : (fault : StepFault) (r : Result (Unit {0}) StepFault) (left : Option (List ℕ)) (ta tb tc td : Told) (out out2 out3 err : Option (List ℕ)) → FoundAt (seen ta) → Sums (Ok tt) (seen ta) (seen tb) out out2 err → ReadiesAt words heading n x.front x.found (seen tb) (seen tc) (Err fault) out2 out3 err
+        → Moves (bytes_eq (y_file n)) (λ u. u) (seen tb) (seen tc) → (writes_g words ≡ false → tc ≡ tb) → GivesUpGet (writes_g words) n fault r (seen tc) (seen td) → LosesNothing ta tb → TouchesOnly (bytes_eq (y_file n)) tb td → StepCrashPoints action r n left (scene ta out err) (scene td out3 err)
+    given_up_crash_points fault r left ta tb tc td out out2 out3 err found sums readies moves same gives loses touches = λ m past i is heard calm may.
         at_model words stamp place heading n sfile r ta td out out3 err err m past is
         (by m past is calm (summed_at (view_of m) (seen tb) out out2 err (subst (λ (t : Told). FoundAt (seen t)) is found) (subst (λ (t : Told). Sums (Ok tt) (seen t) (seen tb) out out2 err) is sums)))
       where
@@ -316,9 +316,9 @@ module _ (words : GetWords) (stamp : Stamp) (place : List ℕ) (heading : Bool) 
             (subst (λ (o : Option View). Moves (bytes_eq (y_file n)) (λ u. u) o (seen tc)) at.told moves) (λ none. ap seen (same none) ∙ at.told) gives
             (before_then tb td m past (loses m past is calm) (λ m1 past1 is1 calm1. touched_before words stamp place heading n sfile tb td m1 past1 is1 calm1 touches)))
 
-    pub cut_moments : (fault : StepFault) (r : Result (Unit {0}) StepFault) (left : Option (List ℕ)) (ta tb td : Told) (out out2 err : Option (List ℕ)) → FoundAt (seen ta) → Sums (Err fault) (seen ta) (seen tb) out out2 err → GivesUpGet (writes_l words) n fault r (seen tb) (seen td) → LosesNothing ta tb → TouchesOnly (bytes_eq (y_file n)) tb td
-        → StepMoments action r n left (scene ta out err) (scene td out2 err)
-    cut_moments fault r left ta tb td out out2 err found sums gives loses touches = λ m past i is heard calm may.
+    pub cut_crash_points : (fault : StepFault) (r : Result (Unit {0}) StepFault) (left : Option (List ℕ)) (ta tb td : Told) (out out2 err : Option (List ℕ)) → FoundAt (seen ta) → Sums (Err fault) (seen ta) (seen tb) out out2 err → GivesUpGet (writes_l words) n fault r (seen tb) (seen td) → LosesNothing ta tb → TouchesOnly (bytes_eq (y_file n)) tb td
+        → StepCrashPoints action r n left (scene ta out err) (scene td out2 err)
+    cut_crash_points fault r left ta tb td out out2 err found sums gives loses touches = λ m past i is heard calm may.
         at_model words stamp place heading n sfile r ta td out out2 err err m past is (by m past is calm (subst (λ (t : Told). FoundAt (seen t)) is found) (subst (λ (t : Told). Sums (Err fault) (seen t) (seen tb) out out2 err) is sums))
       where
         by : (m : Model) (past : List Model) → ta ≡ Tells m past → IsCalm m → (answers : AnswersLocated words stamp place n (look (view_of m) n) (Ok x)) → Sums (Err fault) (Some (view_of m)) (seen tb) out out2 err → EndsSo words stamp place heading n sfile r (view_of m) m past td out err out2 err (outcome_at (view_of m))

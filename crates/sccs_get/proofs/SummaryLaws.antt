@@ -2,7 +2,7 @@
 use Rattle.std.proofs.Common.{◌≡◌, ◌⊎◌, ℕ, zero, suc, Bool, true, false, ◌||◌, cond, List, ◌++◌, drop, Option, None, Some, Result, Ok, Err, inl, inr, refl, sym, ap, subst, ◌∙◌, append_assoc, ⊎_elim}
 use Rattle.std.specs.Prelude.{unwrap_or, if◌then◌else◌}
 use Rattle.std.specs.Str.{bytes_eq}
-use Rattle.sccs_base.specs.Name.{IsSfile, p_file, y_file, z_file}
+use Rattle.sccs_base.specs.Name.{IsSFileName, p_file, y_file, z_file}
 use Rattle.sccs_base.specs.Stream.{GivesOk, GivesSome}
 use Rattle.sccs_base.proofs.Gifts.{gives_both, gives_then, some_longer}
 use Rattle.sccs_sid.specs.declared.refusals.StepFault.{StepFault}
@@ -63,7 +63,7 @@ working_l n k h =
     ⊎_elim (λ e. absurd (let some : is_working n (l_file n) ≡ true = subst (λ l. is_working n l ≡ true) (sym e) h in let none : is_working n (l_file n) ≡ false = refl in cc)) (λ other. other) (name_cases (l_file n) k)
 
 -- the l-file anew, and all else as it was
-pub placed_l : (n text : List ℕ) (v : View) → IsSfile n → placed v n (with_l text (look v n)) ≡ l_put n text v
+pub placed_l : (n text : List ℕ) (v : View) → IsSFileName n → placed v n (with_l text (look v n)) ≡ l_put n text v
 placed_l n text v sfile =
     ap (λ (t : View). put (put (put t (drop 2 n) (v (drop 2 n))) (p_file n) (v (p_file n))) n (v n)) (ap (λ x. put u (z_file n) x) (sym (put_other v (l_file n) (z_file n) (Some (summary_file text)) refl)) ∙ put_back u (z_file n))
     ∙ (ap (λ (t : View). put (put t (p_file n) (v (p_file n))) n (v n)) (ap (λ x. put u (drop 2 n) x) (sym (put_other v (l_file n) (drop 2 n) (Some (summary_file text)) (from_g 108 n sfile))) ∙ put_back u (drop 2 n))
@@ -74,7 +74,7 @@ placed_l n text v sfile =
     u = l_put n text v
 
 -- and the g-file
-pub placed_both : (n summary text : List ℕ) (writable : Bool) (v : View) → IsSfile n → placed v n (with_l summary (with_g (look v n) text writable)) ≡ g_put n (content text writable) (l_put n summary v)
+pub placed_both : (n summary text : List ℕ) (writable : Bool) (v : View) → IsSFileName n → placed v n (with_l summary (with_g (look v n) text writable)) ≡ g_put n (content text writable) (l_put n summary v)
 placed_both n summary text writable v sfile =
     ap (λ (t : View). put (put (put t (drop 2 n) (Some (content text writable))) (p_file n) (v (p_file n))) n (v n)) (ap (λ x. put u (z_file n) x) (sym (put_other v (l_file n) (z_file n) (Some (summary_file summary)) refl)) ∙ put_back u (z_file n))
     ∙ (ap (λ (t : View). put t n (v n)) (ap (λ x. put w (p_file n) x) (sym (put_other u (drop 2 n) (p_file n) (Some (content text writable)) (to_g 112 n sfile) ∙ put_other v (l_file n) (p_file n) (Some (summary_file summary)) refl)) ∙ put_back w (p_file n))
@@ -94,7 +94,7 @@ l_by l n summary v = if l then l_made n summary v else v
 abbrev pub l_new : (l g : Bool) → List ℕ → List ℕ → List ℕ → Bool → View → Option Files
 l_new l g n summary text writable v = if l then Some (with_l summary (unwrap_or (new_by g n text writable v) (look v n))) else new_by g n text writable v
 
-moved_by : (l g : Bool) (n summary text : List ℕ) (writable : Bool) (v : View) (k : List ℕ) → IsSfile n → is_working n k ≡ false → moved (l_by l n summary v) n (new_by g n text writable (l_by l n summary v)) k ≡ moved v n (l_new l g n summary text writable v) k
+moved_by : (l g : Bool) (n summary text : List ℕ) (writable : Bool) (v : View) (k : List ℕ) → IsSFileName n → is_working n k ≡ false → moved (l_by l n summary v) n (new_by g n text writable (l_by l n summary v)) k ≡ moved v n (l_new l g n summary text writable v) k
 moved_by false g n summary text writable v k sfile h = refl
 moved_by true false n summary text writable v k sfile h = l_alike n summary v k (no_y n k h) ∙ sym (ap (λ (t : View). t k) (placed_l n summary v sfile))
 moved_by true true n summary text writable v k sfile h =
@@ -130,7 +130,7 @@ first_same true n text writable u = (one, two, three)
 abbrev FirstBy : (l g : Bool) → (n summary text : List ℕ) → Bool → View → ℕ → Type 0
 FirstBy l g n summary text writable v i = (j : ℕ) × ((k : List ℕ) → is_working n k ≡ false → first_moved i (l_by l n summary v) n (new_by g n text writable (l_by l n summary v)) k ≡ first_moved j v n (l_new l g n summary text writable v) k)
 
-first_by : (l g : Bool) (i : ℕ) (n summary text : List ℕ) (writable : Bool) (v : View) → IsSfile n → FirstBy l g n summary text writable v i
+first_by : (l g : Bool) (i : ℕ) (n summary text : List ℕ) (writable : Bool) (v : View) → IsSFileName n → FirstBy l g n summary text writable v i
 first_by false g i n summary text writable v sfile = (i, λ k h. refl)
 first_by true g zero n summary text writable v sfile = (1, λ k h. l_alike n summary v k (no_y n k h))
 first_by true g (suc zero) n summary text writable v sfile = (1, λ k h. ap (λ (t : View). t k) (first_same g n text writable (l_made n summary v)).0 ∙ l_alike n summary v k (no_y n k h))
@@ -197,7 +197,7 @@ up_moves true n (Some u) o2 gone = subst (λ (o : Option View). Moves (bytes_eq 
 
 -- ---- how the step ends
 
-module _ (words : GetWords) (heading : Bool) (n summary : List ℕ) (records : List Record) (found : Found) (lines : List HistoryLine) (sfile : IsSfile n) where
+module _ (words : GetWords) (heading : Bool) (n summary : List ℕ) (records : List Record) (found : Found) (lines : List HistoryLine) (sfile : IsSFileName n) where
   -- behind the summary, and with it
   abbrev pub part : View → StepEffect
   part u = get_effect words heading n records (look u n) found lines

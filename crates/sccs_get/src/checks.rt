@@ -1,5 +1,5 @@
 ghost use Rattle.std.specs.Prelude.{◌≡◌, ◌∷◌, ℕ, List, [], Err, IfOk, IfSome, OnErr};
-ghost use Rattle.sccs_base.specs.Name.{IsSfile};
+ghost use Rattle.sccs_base.specs.Name.{IsSFileName};
 ghost use Rattle.sccs_disk.specs.Files.{View};
 ghost use Rattle.sccs_disk.specs.Told.{seen};
 ghost use Rattle.sccs_name_files.specs.StepFiles.{look};
@@ -69,7 +69,7 @@ pub fn is_in_the_way<D: Disk>(
     name: &Name,
     disk: &mut D,
 ) -> Result<bool, StepFault>
-    requires { IsSfile name.now }
+    requires { IsSFileName name.now }
     ensures told { IfSome (seen (D.told disk.old)) (λ (v : View). IfOk result (λ b. b ≡ is_in_the_way words.now (look v name.now).g)) }
     ensures fault { OnErr result (result ≡ Err faults.DiskFault) }
     ensures frame { OnlyReads D.told D.faults disk.old disk.new result }
@@ -85,7 +85,7 @@ pub fn is_in_the_way<D: Disk>(
 
 /// Refuses a g-file that is there and may be written, where the text is to take its place. POSIX get.
 pub fn check_g<D: Disk>(words: &GetWords, name: &Name, disk: &mut D) -> Result<(), StepFault>
-    requires { IsSfile name.now }
+    requires { IsSFileName name.now }
     ensures told { IfSome (seen (D.told disk.old)) (λ (v : View). PassesCheck (g_is_free words.now (look v name.now).g) result) }
     ensures checks { RefusesWithin version_checks result }
     ensures frame { OnlyReads D.told D.faults disk.old disk.new result }

@@ -1,7 +1,7 @@
 ghost use Rattle.std.specs.Prelude.{◌≡◌, ◌∷◌, ◌++◌, [], ℕ, List, Option, Some, All, Ok, Err, IfOk, IfSome, is_some, true, false};
 ghost use Rattle.std.specs.List.{AllByRecursion};
 ghost use Rattle.std.specs.Str.{bytes_eq};
-ghost use Rattle.sccs_base.specs.Name.{IsSfile, p_file, q_file, z_file};
+ghost use Rattle.sccs_base.specs.Name.{IsSFileName, p_file, q_file, z_file};
 ghost use Rattle.sccs_disk.specs.Calls.{IsThere};
 ghost use Rattle.sccs_disk.specs.Files.{View};
 ghost use Rattle.sccs_disk.specs.Images.{IsFirm};
@@ -80,7 +80,7 @@ fn find_edit<D: Disk>(
     name: &Name,
     disk: &mut D,
 ) -> Result<Reserved, StepFault>
-    requires { IsSfile name.now }
+    requires { IsSFileName name.now }
     ensures told { IfSome (seen (D.told disk.old)) (λ (v : View). AnswersReserved get.now.words.now get.now.stamp.now get.now.place.now name.now (look v name.now) result) }
     ensures pending { IfOk result (λ r. IfSome (seen (D.told disk.old)) (λ (v : View). AnswersPending (v name.now) (v (p_file name.now)) (Ok r.pending))) }
     ensures placed { IfOk result (λ r. IsPlaced r.pending.front) }
@@ -124,7 +124,7 @@ fn add_entry<D: Disk>(
     edit: Edit,
     disk: &mut D,
 ) -> Result<NewP, StepFault>
-    requires sfile { IsSfile name.now }
+    requires sfile { IsSFileName name.now }
     requires edits { All IsEdit edits }
     requires edit { IsEdit edit }
     ensures entries { IfOk result (λ new. PreparesEntries name.now (edits ++ edit ∷ []) new (D.told disk.old) (D.told disk.new)) }
@@ -165,7 +165,7 @@ fn give_edit<O: Sink, D: Disk>(
     out: &mut O,
     disk: &mut D,
 ) -> Result<Prepared, StepFault>
-    requires sfile { IsSfile name.now }
+    requires sfile { IsSFileName name.now }
     requires edits { All IsEdit reserved.pending.edits }
     requires edit { IsEdit reserved.edit }
     requires facts { IfSome reserved.version.facts HasMoments }

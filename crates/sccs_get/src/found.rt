@@ -1,6 +1,6 @@
 ghost use Rattle.std.specs.Prelude.{◌≡◌, ◌≢◌, IfOk, IfSome, false, is_some};
 ghost use Rattle.std.specs.List.{AllByRecursion};
-ghost use Rattle.sccs_base.specs.Name.{IsSfile};
+ghost use Rattle.sccs_base.specs.Name.{IsSFileName};
 ghost use Rattle.sccs_history.specs.Applied.{live_serials};
 ghost use Rattle.sccs_history.specs.History.{IsSpelled, IsTable};
 ghost use Rattle.sccs_history.specs.Numbers.{has};
@@ -63,7 +63,7 @@ fn module_in(
     header: &Header,
     name: &Name,
 ) -> Result<Option<Line>, Memory>
-    requires { IsSfile name.now }
+    requires { IsSFileName name.now }
     ensures { IfOk result (λ module_name. module_name ≡ module_in words.now header.now name.now) }
 {
     if !words.module {
@@ -87,7 +87,7 @@ fn facts_in(
     target: u16,
     sid: Sid,
 ) -> Result<Option<Facts>, Memory>
-    requires sfile { IsSfile name.now }
+    requires sfile { IsSFileName name.now }
     requires spelled { IsSpelled header.now }
     requires moment { IsMoment stamp.now.moment }
     ensures value { IfOk result (λ facts. facts ≡ version_facts words.now stamp.now place.now name.now header.now set.now target sid) }
@@ -111,7 +111,7 @@ pub fn find_version(
     name: &Name,
     header: &Header,
 ) -> Result<Found, StepFault>
-    requires sfile { IsSfile name.now }
+    requires sfile { IsSFileName name.now }
     requires table { IsTable header.now.records }
     requires spelled { IsSpelled header.now }
     requires moment { IsMoment stamp.now.moment }

@@ -1,6 +1,6 @@
 ghost use Rattle.std.specs.Prelude.{◌≡◌, ◌≢◌, ◌≤◌, ℕ, true, false, List, Option, Err, IfOk, IfSome, OnOk};
 ghost use Rattle.std.specs.Str.{bytes_eq};
-ghost use Rattle.sccs_base.specs.Name.{IsSfile, y_file};
+ghost use Rattle.sccs_base.specs.Name.{IsSFileName, y_file};
 ghost use Rattle.sccs_disk.specs.Calls.{IsThere};
 ghost use Rattle.sccs_disk.specs.Images.{IsFirm};
 ghost use Rattle.sccs_disk.specs.Told.{seen};
@@ -54,7 +54,7 @@ pub fn give_version<O: Sink, D: Disk>(
     out: &mut O,
     disk: &mut D,
 ) -> Result<Shown, StepFault>
-    requires sfile { IsSfile name.now }
+    requires sfile { IsSFileName name.now }
     requires facts { IfSome found.now.facts HasMoments }
     requires table { Falls 65536 (serials_of front.now.header.records) }
     ensures gives { (file : List ℕ) (items : List Item) (err : Option (List ℕ))

@@ -1,7 +1,7 @@
 ghost use Rattle.std.specs.Prelude.{◌≡◌, ◌≤◌, ◌⊎◌, ◌||◌, ℕ, true, false, List, drop, Option, Some, Ok, Err, IfOk, IfSome, OnErr, OnOk, IsErr, is_some};
 ghost use Rattle.std.specs.List.{AllByRecursion};
 ghost use Rattle.std.specs.Str.{bytes_eq};
-ghost use Rattle.sccs_base.specs.Name.{IsSfile, y_file};
+ghost use Rattle.sccs_base.specs.Name.{IsSFileName, y_file};
 ghost use Rattle.sccs_base.specs.Stream.{Rose};
 ghost use Rattle.sccs_disk.specs.Calls.{IsThere};
 ghost use Rattle.sccs_disk.specs.Files.{View};
@@ -78,7 +78,7 @@ fn locate<D: Disk>(
     name: &Name,
     disk: &mut D,
 ) -> Result<Located, StepFault>
-    requires { IsSfile name.now }
+    requires { IsSFileName name.now }
     ensures told { IfSome (seen (D.told disk.old)) (λ (v : View). AnswersLocated get.now.words.now get.now.stamp.now get.now.place.now name.now (look v name.now) result) }
     ensures rules { IfOk result (λ l. IsHeader l.front.header) }
     ensures spelled { IfOk result (λ l. AllByRecursion HasSpelling l.front.header.records) }
@@ -111,7 +111,7 @@ fn ready<O: Sink, D: Disk>(
     out: &mut O,
     disk: &mut D,
 ) -> Result<Prepared, StepFault>
-    requires sfile { IsSfile name.now }
+    requires sfile { IsSFileName name.now }
     requires rules { IsHeader located.now.front.header }
     requires table { Falls 65536 (serials_of located.now.front.header.records) }
     requires placed { IsPlaced located.now.front }
@@ -149,7 +149,7 @@ fn ready<O: Sink, D: Disk>(
 
 // puts the y-file in the place of the g-file, where there is a text for it
 fn place<D: Disk>(words: &GetWords, name: &Name, disk: &mut D) -> Result<(), StepFault>
-    requires sfile { IsSfile name.now }
+    requires sfile { IsSFileName name.now }
     requires there { writes_g words.now ≡ true → IsThere (y_file name.now) (D.told disk.old) }
     ensures view { OnOk result (Becomes (g_placed words.now name.now) (seen (D.told disk.old)) (seen (D.told disk.new))) }
     ensures halfway { OnErr result (MayBecome (g_placed words.now name.now) (seen (D.told disk.old)) (seen (D.told disk.new))) }
@@ -178,7 +178,7 @@ fn finish<O: Sink, E: Sink, D: Disk>(
     err: &mut E,
     disk: &mut D,
 ) -> Result<(), StepFault>
-    requires sfile { IsSfile name.now }
+    requires sfile { IsSFileName name.now }
     requires there { writes_g words.now ≡ true → IsThere (y_file name.now) (D.told disk.old) }
     ensures finishes { FinishesGet words.now name.now prepared.now result
         (world (seen (D.told disk.old)) (O.given out.old) (E.given err.old)) (world (seen (D.told disk.new)) (O.given out.new) (E.given err.new)) }
@@ -199,7 +199,7 @@ fn give_up<D: Disk>(
     name: &Name,
     disk: &mut D,
 ) -> Result<(), StepFault>
-    requires { IsSfile name.now }
+    requires { IsSFileName name.now }
     ensures gives_up { GivesUpGet has_y name.now fault result (seen (D.told disk.old)) (seen (D.told disk.new)) }
     ensures touches { TouchesOnly (bytes_eq (y_file name.now)) (D.told disk.old) (D.told disk.new) }
     ensures same { has_y ≡ false → D.told disk.new ≡ D.told disk.old }

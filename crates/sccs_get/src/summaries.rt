@@ -1,6 +1,6 @@
 ghost use Rattle.std.specs.Prelude.{◌≡◌, [], ℕ, List, Option, false};
 ghost use Rattle.std.specs.List.{AllByRecursion};
-ghost use Rattle.sccs_base.specs.Name.{IsSfile};
+ghost use Rattle.sccs_base.specs.Name.{IsSFileName};
 ghost use Rattle.sccs_disk.specs.Told.{seen};
 ghost use Rattle.sccs_history.specs.History.{HasSpelling};
 ghost use Rattle.sccs_crash_points.specs.Unlocked.{KeepsOthers};
@@ -37,7 +37,7 @@ pub fn give_summary<O: Sink, D: Disk>(
     out: &mut O,
     disk: &mut D,
 ) -> Result<(), StepFault>
-    requires sfile { IsSfile name.now }
+    requires sfile { IsSFileName name.now }
     requires spelled { AllByRecursion HasSpelling front.now.header.records }
     ensures gives { (err : Option (List ℕ)) → GivesSummary words.now name.now (summary_got words.now front.now.header.records found.now) result
         (world (seen (D.told disk.old)) (O.given out.old) err) (world (seen (D.told disk.new)) (O.given out.new) err) }

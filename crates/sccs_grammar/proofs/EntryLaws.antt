@@ -9,7 +9,7 @@ use Rattle.sccs_history.specs.History.{NamesSmaller, IsRecord, HasSpelling, same
 use Rattle.sccs_history.specs.declared.headers.Record.{Record}
 use Rattle.sccs_grammar.specs.Front.{at_table, at_lists, with_include, with_exclude, with_ignore, parser_at, table_alone, none_seen, entry, all_below, least, may_follow, dangling_predecessor, front_from}
 use Rattle.sccs_tokens.specs.Written.{IsSerial, counts_line, delta_line, delta_part, list_lines, mr_line, comment_line, end_line, entry_lines, table_lines}
-use Rattle.sccs_grammar.specs.declared.header_parsers.Entry.{Entry}
+use Rattle.sccs_grammar.specs.declared.header_parsers.TableEntry.{TableEntry}
 use Rattle.sccs_grammar.specs.declared.header_parsers.ListsSeen.{ListsSeen}
 use Rattle.sccs_grammar.specs.Entries.{Entries, with_entry}
 use Rattle.sccs_grammar.specs.declared.header_parsers.HeaderState.TheVariants.{AtDelta}
@@ -51,7 +51,7 @@ abbrev stood_by : Bool → Bool → Bool → ListsSeen
 stood_by i x g = record { included = i; excluded = x; ignored = g }
 
 -- the entry of a record whose delta line has this number
-abbrev entry_of : ℕ → Record → Entry
+abbrev entry_of : ℕ → Record → TableEntry
 entry_of line r = record { line = line; row = r }
 
 pub entry_again : (n : ℕ) (entries : Entries) (all : List Record) (r : Record) (rest : List (List ℕ)) → IsRecord all r → HasSpelling r → r.serial < 65536 → may_follow (delta_part r) entries.records ≡ true

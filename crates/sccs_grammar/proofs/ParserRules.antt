@@ -15,7 +15,7 @@ use Rattle.sccs_history.specs.declared.headers.Record.{Record}
 use Rattle.sccs_history.specs.declared.headers.Flag.{Flag}
 use Rattle.sccs_grammar.specs.Front.{ParsedFront, header_of, start, least, may_follow, dangling_predecessor, all_below, flag_fits, if_fits, in_texts, with_list, in_lists, ends_table, at_entry, at_delta, in_users, in_flags, in_description, after, accepted, line_after, is_whole, front_from}
 use Rattle.sccs_tokens.specs.Tokens.{token}
-use Rattle.sccs_grammar.specs.declared.header_parsers.Entry.{Entry}
+use Rattle.sccs_grammar.specs.declared.header_parsers.TableEntry.{TableEntry}
 use Rattle.sccs_grammar.specs.declared.header_parsers.ListsSeen.{ListsSeen}
 use Rattle.sccs_grammar.specs.Entries.{Entries, with_entry}
 use Rattle.sccs_grammar.specs.declared.header_parsers.PartialHeader.{PartialHeader}
@@ -109,7 +109,7 @@ sids_push (a ∷ above) r own new =
     let before : (a.removed || not (lives (above ++ r ∷ []) a.sid)) ≡ true = rw (list_any-append (lives_as a.sid) above (r ∷ [])) (own_before a.removed r.removed (lives above r.sid) (same_sid r.sid a.sid) (same_sid a.sid r.sid) (lives above a.sid) parts.0 new (flip_sids r.sid a.sid)) in
     rw before (sids_push above r parts.1 (others_own r.removed (lives_as r.sid a) (lives above r.sid) new))
 
-entry_keeps : (t : Entries) (e : Entry) → SoFar t → MayStand t.records e.row → SoFar (with_entry t e)
+entry_keeps : (t : Entries) (e : TableEntry) → SoFar t → MayStand t.records e.row → SoFar (with_entry t e)
 entry_keeps t e h is = record {
   falls = falls_push 65536 t.records e.row h.falls is.1;
   rows = all_push IsRow t.records e.row h.rows is.0;
@@ -123,7 +123,7 @@ fits : (t : Bool) (n : ℕ) (r : HeaderParser) → (t ≡ true → Keeps r) → 
 fits true n r h = h refl
 fits false n r h = tt
 
-texts_keep : (n : ℕ) (parts : PartialHeader) (e : Entry) (s : LineToken) → SoFar parts.table → MayStand parts.table.records e.row → KeepsRest parts → IfOk (in_texts n parts e s) Keeps
+texts_keep : (n : ℕ) (parts : PartialHeader) (e : TableEntry) (s : LineToken) → SoFar parts.table → MayStand parts.table.records e.row → KeepsRest parts → IfOk (in_texts n parts e s) Keeps
 texts_keep n parts e (Mr t) table is rest = ((table, is), rest)
 texts_keep n parts e (Comment t) table is rest = ((table, is), rest)
 texts_keep n parts e EndEntry table is rest = (entry_keeps parts.table e table is, rest)
@@ -135,7 +135,7 @@ names_smaller serial (n ∷ ns) below some =
     let parts = and_parts (nat_lt n serial) (all_below serial ns) below in
     ((some.0, ltb-true n serial parts.0), names_smaller serial ns parts.1 some.1)
 
-list_keeps : (n : ℕ) (parts : PartialHeader) (e : Entry) (seen : ListsSeen) (which : ListKind) (ns : List ℕ) → SoFar parts.table → MayStand parts.table.records e.row → KeepsRest parts → AllByRecursion (λ n. 0 < n) ns → IfOk (with_list n parts e seen which ns) Keeps
+list_keeps : (n : ℕ) (parts : PartialHeader) (e : TableEntry) (seen : ListsSeen) (which : ListKind) (ns : List ℕ) → SoFar parts.table → MayStand parts.table.records e.row → KeepsRest parts → AllByRecursion (λ n. 0 < n) ns → IfOk (with_list n parts e seen which ns) Keeps
 list_keeps n parts e seen Included ns table is rest some =
     fits (not seen.included && all_below e.row.serial ns && not (share ns e.row.exclude)) n _ λ test.
     let tests = and_parts (not seen.included && all_below e.row.serial ns) (not (share ns e.row.exclude)) test in
@@ -154,7 +154,7 @@ list_keeps n parts e seen Ignored ns table is rest some =
     let row = is.0 in
     ((table, ((row.0, row.1, row.2, row.3, names_smaller e.row.serial ns tests.1 some, row.5, row.6, row.7, row.8), is.1, is.2)), rest)
 
-lists_keep : (n : ℕ) (parts : PartialHeader) (e : Entry) (seen : ListsSeen) (s : LineToken) → SoFar parts.table → MayStand parts.table.records e.row → KeepsRest parts → IsValidToken s → IfOk (in_lists n parts e seen s) Keeps
+lists_keep : (n : ℕ) (parts : PartialHeader) (e : TableEntry) (seen : ListsSeen) (s : LineToken) → SoFar parts.table → MayStand parts.table.records e.row → KeepsRest parts → IsValidToken s → IfOk (in_lists n parts e seen s) Keeps
 lists_keep n parts e seen (Listed which ns) table is rest well = list_keeps n parts e seen which ns table is rest well
 lists_keep n parts e seen s table is rest well = texts_keep n parts e s table is rest
 

@@ -9,7 +9,7 @@ use Rattle.sccs_history.specs.declared.headers.Flag.{Flag}
 use Rattle.sccs_tokens.specs.Tokens.{token, control}
 use Rattle.sccs_grammar.specs.Front.{at_table, at_lists, at_texts, at_users, at_flags, at_description, with_mr, with_comment, with_mrs, with_comments, with_include, with_exclude, with_ignore, all_below, after, accepted, is_whole, line_after, front_from}
 use Rattle.sccs_tokens.specs.Written.{end_line, IsSerial, spaced, list_lines, mr_line, comment_line, flag_line}
-use Rattle.sccs_grammar.specs.declared.header_parsers.Entry.{Entry}
+use Rattle.sccs_grammar.specs.declared.header_parsers.TableEntry.{TableEntry}
 use Rattle.sccs_grammar.specs.declared.header_parsers.ListsSeen.{ListsSeen}
 use Rattle.sccs_grammar.specs.Entries.{Entries, with_entry}
 use Rattle.sccs_grammar.specs.declared.header_parsers.HeaderParser.{HeaderParser}
@@ -97,19 +97,19 @@ flags_again n entries users fs rest are own = flags_behind n entries users [] fs
 
 -- ---- MRs and comments
 
-no_mrs : (e : Entry) → with_mrs e [] ≡ e
+no_mrs : (e : TableEntry) → with_mrs e [] ≡ e
 no_mrs e = ap (λ (ts : List (List ℕ)). record e { row = record e.row { mrs = ts } }) (append-nil e.row.mrs)
 
-no_comments : (e : Entry) → with_comments e [] ≡ e
+no_comments : (e : TableEntry) → with_comments e [] ≡ e
 no_comments e = ap (λ (ts : List (List ℕ)). record e { row = record e.row { comments = ts } }) (append-nil e.row.comments)
 
-more_mrs : (e : Entry) (t : List ℕ) (ts : List (List ℕ)) → with_mrs (with_mr e t) ts ≡ with_mrs e (t ∷ ts)
+more_mrs : (e : TableEntry) (t : List ℕ) (ts : List (List ℕ)) → with_mrs (with_mr e t) ts ≡ with_mrs e (t ∷ ts)
 more_mrs e t ts = ap (λ (all : List (List ℕ)). record e { row = record e.row { mrs = all } }) (push_more e.row.mrs t ts)
 
-more_comments : (e : Entry) (t : List ℕ) (ts : List (List ℕ)) → with_comments (with_comment e t) ts ≡ with_comments e (t ∷ ts)
+more_comments : (e : TableEntry) (t : List ℕ) (ts : List (List ℕ)) → with_comments (with_comment e t) ts ≡ with_comments e (t ∷ ts)
 more_comments e t ts = ap (λ (all : List (List ℕ)). record e { row = record e.row { comments = all } }) (push_more e.row.comments t ts)
 
-pub mrs_again : (n : ℕ) (entries : Entries) (e : Entry) (ts : List (List ℕ)) (rest : List (List ℕ))
+pub mrs_again : (n : ℕ) (entries : Entries) (e : TableEntry) (ts : List (List ℕ)) (rest : List (List ℕ))
     → front_from n (at_texts entries e) (map mr_line ts ++ rest) ≡ front_from (n + length ts) (at_texts entries (with_mrs e ts)) rest
 mrs_again n entries e [] rest = same n (n + 0) (at_texts entries e) (at_texts entries (with_mrs e [])) rest (omega arith) (ap (at_texts entries) (sym (no_mrs e)))
 mrs_again n entries e (t ∷ ts) rest =
@@ -117,7 +117,7 @@ mrs_again n entries e (t ∷ ts) rest =
     ∙ (mrs_again (suc n) entries (with_mr e t) ts rest
     ∙ same (suc n + length ts) (n + suc (length ts)) (at_texts entries (with_mrs (with_mr e t) ts)) (at_texts entries (with_mrs e (t ∷ ts))) rest (one_more n (length ts)) (ap (at_texts entries) (more_mrs e t ts)))
 
-pub comments_again : (n : ℕ) (entries : Entries) (e : Entry) (ts : List (List ℕ)) (rest : List (List ℕ))
+pub comments_again : (n : ℕ) (entries : Entries) (e : TableEntry) (ts : List (List ℕ)) (rest : List (List ℕ))
     → front_from n (at_texts entries e) (map comment_line ts ++ rest) ≡ front_from (n + length ts) (at_texts entries (with_comments e ts)) rest
 comments_again n entries e [] rest = same n (n + 0) (at_texts entries e) (at_texts entries (with_comments e [])) rest (omega arith) (ap (at_texts entries) (sym (no_comments e)))
 comments_again n entries e (t ∷ ts) rest =
@@ -130,7 +130,7 @@ unfolding token control
 token_end_entry = refl
 
 -- behind the first MR or comment: MRs, comments and the end
-pub texts_again : (n : ℕ) (entries : Entries) (e : Entry) (ms cs : List (List ℕ)) (rest : List (List ℕ))
+pub texts_again : (n : ℕ) (entries : Entries) (e : TableEntry) (ms cs : List (List ℕ)) (rest : List (List ℕ))
     → front_from n (at_texts entries e) (map mr_line ms ++ (map comment_line cs ++ (end_line ∷ rest)))
     ≡ front_from (suc (n + length ms + length cs)) (at_table (with_entry entries (with_comments (with_mrs e ms) cs))) rest
 texts_again n entries e ms cs rest =
@@ -138,11 +138,11 @@ texts_again n entries e ms cs rest =
     ∙ (comments_again (n + length ms) entries (with_mrs e ms) cs (end_line ∷ rest)
     ∙ says (n + length ms + length cs) (at_texts entries (with_comments (with_mrs e ms) cs)) (at_table (with_entry entries (with_comments (with_mrs e ms) cs))) end_line rest EndEntry token_end_entry refl refl)
 
-abbrev ends_with : Entries → Entry → HeaderParser
+abbrev ends_with : Entries → TableEntry → HeaderParser
 ends_with entries e = at_table (with_entry entries e)
 
 -- the same behind the lists
-pub texts_behind : (n : ℕ) (entries : Entries) (e : Entry) (seen : ListsSeen) (ms cs : List (List ℕ)) (rest : List (List ℕ))
+pub texts_behind : (n : ℕ) (entries : Entries) (e : TableEntry) (seen : ListsSeen) (ms cs : List (List ℕ)) (rest : List (List ℕ))
     → front_from n (at_lists entries e seen) (map mr_line ms ++ (map comment_line cs ++ (end_line ∷ rest)))
     ≡ front_from (suc (n + length ms + length cs)) (at_table (with_entry entries (with_comments (with_mrs e ms) cs))) rest
 texts_behind n entries e seen [] [] rest =
@@ -155,12 +155,12 @@ texts_behind n entries e seen [] (c ∷ cs) rest =
 texts_behind n entries e seen (m ∷ ms) cs rest =
     says n (at_lists entries e seen) (at_texts entries (with_mr e m)) (mr_line m) (map mr_line ms ++ (map comment_line cs ++ (end_line ∷ rest))) (Mr m) (token_mr m) refl refl
     ∙ (texts_again (suc n) entries (with_mr e m) ms cs rest
-    ∙ same (suc (suc n + length ms + length cs)) (suc (n + suc (length ms) + length cs)) (at_table (with_entry entries (with_comments (with_mrs (with_mr e m) ms) cs))) (at_table (with_entry entries (with_comments (with_mrs e (m ∷ ms)) cs))) rest (omega arith) (ap (λ (x : Entry). ends_with entries (with_comments x cs)) (more_mrs e m ms)))
+    ∙ same (suc (suc n + length ms + length cs)) (suc (n + suc (length ms) + length cs)) (at_table (with_entry entries (with_comments (with_mrs (with_mr e m) ms) cs))) (at_table (with_entry entries (with_comments (with_mrs e (m ∷ ms)) cs))) rest (omega arith) (ap (λ (x : TableEntry). ends_with entries (with_comments x cs)) (more_mrs e m ms)))
 
 -- ---- lists
 
 -- an include list, where none is there yet
-pub include_again : (n : ℕ) (entries : Entries) (e : Entry) (seen : ListsSeen) (ns : List ℕ) (rest : List (List ℕ))
+pub include_again : (n : ℕ) (entries : Entries) (e : TableEntry) (seen : ListsSeen) (ns : List ℕ) (rest : List (List ℕ))
     → AllByRecursion IsSerial ns → e.row.include ≡ [] → seen.included ≡ false → all_below e.row.serial ns ≡ true → share ns e.row.exclude ≡ false
     → front_from n (at_lists entries e seen) (list_lines 105 ns ++ rest) ≡ front_from (n + length (list_lines 105 ns)) (at_lists entries (with_include e ns) (record seen { included = not (is_empty ns) })) rest
 include_again n entries e seen [] rest are none first below apart =
@@ -170,7 +170,7 @@ include_again n entries e seen (k ∷ ns) rest are none first below apart =
     ∙ at_number (suc n) (n + 1) (at_lists entries (with_include e (k ∷ ns)) (record seen { included = true })) rest (omega arith)
 
 -- an exclude list
-pub exclude_again : (n : ℕ) (entries : Entries) (e : Entry) (seen : ListsSeen) (ns : List ℕ) (rest : List (List ℕ))
+pub exclude_again : (n : ℕ) (entries : Entries) (e : TableEntry) (seen : ListsSeen) (ns : List ℕ) (rest : List (List ℕ))
     → AllByRecursion IsSerial ns → e.row.exclude ≡ [] → seen.excluded ≡ false → all_below e.row.serial ns ≡ true → share ns e.row.include ≡ false
     → front_from n (at_lists entries e seen) (list_lines 120 ns ++ rest) ≡ front_from (n + length (list_lines 120 ns)) (at_lists entries (with_exclude e ns) (record seen { excluded = not (is_empty ns) })) rest
 exclude_again n entries e seen [] rest are none first below apart =
@@ -180,7 +180,7 @@ exclude_again n entries e seen (k ∷ ns) rest are none first below apart =
     ∙ at_number (suc n) (n + 1) (at_lists entries (with_exclude e (k ∷ ns)) (record seen { excluded = true })) rest (omega arith)
 
 -- an ignore list
-pub ignore_again : (n : ℕ) (entries : Entries) (e : Entry) (seen : ListsSeen) (ns : List ℕ) (rest : List (List ℕ))
+pub ignore_again : (n : ℕ) (entries : Entries) (e : TableEntry) (seen : ListsSeen) (ns : List ℕ) (rest : List (List ℕ))
     → AllByRecursion IsSerial ns → e.row.ignore ≡ [] → seen.ignored ≡ false → all_below e.row.serial ns ≡ true
     → front_from n (at_lists entries e seen) (list_lines 103 ns ++ rest) ≡ front_from (n + length (list_lines 103 ns)) (at_lists entries (with_ignore e ns) (record seen { ignored = not (is_empty ns) })) rest
 ignore_again n entries e seen [] rest are none first below =

@@ -18,7 +18,7 @@ use Rattle.sccs_history.specs.declared.headers.Record.{Record}
 use Rattle.sccs_history.specs.declared.headers.Flag.{Flag}
 use Rattle.sccs_tokens.specs.Tokens.{serial, predecessor, is_removed, delta_of, delta_token, count_token, listed, text, flag, behind_soh, token}
 use Rattle.sccs_grammar.specs.Front.{ParsedFront, header_of, start, if_fits, in_texts, in_lists, ends_table, at_entry, at_delta, in_users, in_flags, in_description, after, accepted, line_after, front_from}
-use Rattle.sccs_grammar.specs.declared.header_parsers.Entry.{Entry}
+use Rattle.sccs_grammar.specs.declared.header_parsers.TableEntry.{TableEntry}
 use Rattle.sccs_grammar.specs.declared.header_parsers.ListsSeen.{ListsSeen}
 use Rattle.sccs_grammar.specs.declared.header_parsers.HeaderState.{HeaderState}
 use Rattle.sccs_grammar.specs.declared.header_parsers.HeaderState.TheVariants.{AtEntry, AtDelta, InLists, InTexts, InUsers, InFlags, InDescription, AtBody}
@@ -141,13 +141,13 @@ fits : (t : Bool) (n : ℕ) (r : HeaderParser) → IsSpelledSoFar r → IfOk (if
 fits true n r h = h
 fits false n r h = tt
 
-texts_spell : (n : ℕ) (parts : PartialHeader) (e : Entry) (s : LineToken) → Spelled e.row → SpelledParts parts → Spells s → IfOk (in_texts n parts e s) IsSpelledSoFar
+texts_spell : (n : ℕ) (parts : PartialHeader) (e : TableEntry) (s : LineToken) → Spelled e.row → SpelledParts parts → Spells s → IfOk (in_texts n parts e s) IsSpelledSoFar
 texts_spell n parts e (Mr t) row rest spells = ((row.0, row.1, row.2, all_push HasNoLf e.row.mrs t row.3 spells, row.4), rest)
 texts_spell n parts e (Comment t) row rest spells = ((row.0, row.1, row.2, row.3, all_push HasNoLf e.row.comments t row.4 spells), rest)
 texts_spell n parts e EndEntry row rest spells = (tt, (all_push Spelled parts.table.records e.row rest.0 row, rest.1, rest.2, rest.3))
 texts_spell n parts e _ row rest spells = tt
 
-lists_spell : (n : ℕ) (parts : PartialHeader) (e : Entry) (seen : ListsSeen) (s : LineToken) → Spelled e.row → SpelledParts parts → Spells s → IfOk (in_lists n parts e seen s) IsSpelledSoFar
+lists_spell : (n : ℕ) (parts : PartialHeader) (e : TableEntry) (seen : ListsSeen) (s : LineToken) → Spelled e.row → SpelledParts parts → Spells s → IfOk (in_lists n parts e seen s) IsSpelledSoFar
 lists_spell n parts e seen (Listed Included ns) row rest spells = fits _ n _ (row, rest)
 lists_spell n parts e seen (Listed Excluded ns) row rest spells = fits _ n _ (row, rest)
 lists_spell n parts e seen (Listed Ignored ns) row rest spells = fits _ n _ (row, rest)

@@ -13,7 +13,7 @@ use Rattle.sccs_grammar.specs.Entries.{Entries, no_entries, with_entry}
 use Rattle.sccs_tokens.specs.Tokens.{token}
 use Rattle.sccs_grammar.specs.declared.header_parsers.FrontFault.{FrontFault}
 use Rattle.sccs_grammar.specs.declared.header_parsers.FrontFault.TheVariants.{Format, Memory}
-use Rattle.sccs_grammar.specs.declared.header_parsers.Entry.{Entry}
+use Rattle.sccs_grammar.specs.declared.header_parsers.TableEntry.{TableEntry}
 use Rattle.sccs_grammar.specs.declared.header_parsers.ListsSeen.{ListsSeen}
 use Rattle.sccs_grammar.specs.declared.header_parsers.PartialHeader.{PartialHeader}
 use Rattle.sccs_grammar.specs.declared.header_parsers.HeaderState.{HeaderState}
@@ -50,10 +50,10 @@ at_description entries users flags description =
     parser_at InDescription (record { table = entries; users = users; flags = flags; description = description })
 
 -- the table was read up to these entries, and of the next one its delta line and some lists, or an MR or comment too
-abbrev pub at_lists : Entries → Entry → ListsSeen → HeaderParser
+abbrev pub at_lists : Entries → TableEntry → ListsSeen → HeaderParser
 at_lists entries e seen = parser_at (InLists e seen) (table_alone entries)
 
-abbrev pub at_texts : Entries → Entry → HeaderParser
+abbrev pub at_texts : Entries → TableEntry → HeaderParser
 at_texts entries e = parser_at (InTexts e) (table_alone entries)
 
 -- nothing was read
@@ -92,42 +92,42 @@ abbrev pub if_fits : {A : Type 0} → Bool → ℕ → A → Result A ℕ
 if_fits true n x = Ok x
 if_fits false n x = Err n
 
-abbrev pub with_mr : Entry → List ℕ → Entry
+abbrev pub with_mr : TableEntry → List ℕ → TableEntry
 with_mr e t = record e { row = record e.row { mrs = e.row.mrs ++ t ∷ [] } }
 
-abbrev pub with_comment : Entry → List ℕ → Entry
+abbrev pub with_comment : TableEntry → List ℕ → TableEntry
 with_comment e t = record e { row = record e.row { comments = e.row.comments ++ t ∷ [] } }
 
 -- with several more, and with these lists
-abbrev pub with_mrs : Entry → List (List ℕ) → Entry
+abbrev pub with_mrs : TableEntry → List (List ℕ) → TableEntry
 with_mrs e ts = record e { row = record e.row { mrs = e.row.mrs ++ ts } }
 
-abbrev pub with_comments : Entry → List (List ℕ) → Entry
+abbrev pub with_comments : TableEntry → List (List ℕ) → TableEntry
 with_comments e ts = record e { row = record e.row { comments = e.row.comments ++ ts } }
 
-abbrev pub with_include : Entry → List ℕ → Entry
+abbrev pub with_include : TableEntry → List ℕ → TableEntry
 with_include e ns = record e { row = record e.row { include = ns } }
 
-abbrev pub with_exclude : Entry → List ℕ → Entry
+abbrev pub with_exclude : TableEntry → List ℕ → TableEntry
 with_exclude e ns = record e { row = record e.row { exclude = ns } }
 
-abbrev pub with_ignore : Entry → List ℕ → Entry
+abbrev pub with_ignore : TableEntry → List ℕ → TableEntry
 with_ignore e ns = record e { row = record e.row { ignore = ns } }
 
 -- MRs and comments, mixed, and the end of the entry
-abbrev pub in_texts : ℕ → PartialHeader → Entry → LineToken → Result HeaderParser ℕ
+abbrev pub in_texts : ℕ → PartialHeader → TableEntry → LineToken → Result HeaderParser ℕ
 in_texts n parts e (Mr t) = Ok (parser_at (InTexts (with_mr e t)) parts)
 in_texts n parts e (Comment t) = Ok (parser_at (InTexts (with_comment e t)) parts)
 in_texts n parts e EndEntry = Ok (parser_at AtEntry (record parts { table = with_entry parts.table e }))
 in_texts n parts e _ = Err n
 
 -- a list of one kind stands once, it names smaller serials, and none is both included and excluded
-abbrev pub list_fits : Entry → ListsSeen → ListKind → List ℕ → Bool
+abbrev pub list_fits : TableEntry → ListsSeen → ListKind → List ℕ → Bool
 list_fits e seen Included ns = not seen.included && all_below e.row.serial ns && not (share ns e.row.exclude)
 list_fits e seen Excluded ns = not seen.excluded && all_below e.row.serial ns && not (share ns e.row.include)
 list_fits e seen Ignored ns = not seen.ignored && all_below e.row.serial ns
 
-abbrev pub put_list : Entry → ListKind → List ℕ → Entry
+abbrev pub put_list : TableEntry → ListKind → List ℕ → TableEntry
 put_list e Included ns = with_include e ns
 put_list e Excluded ns = with_exclude e ns
 put_list e Ignored ns = with_ignore e ns
@@ -137,10 +137,10 @@ seen_with seen Included = record seen { included = true }
 seen_with seen Excluded = record seen { excluded = true }
 seen_with seen Ignored = record seen { ignored = true }
 
-abbrev pub with_list : ℕ → PartialHeader → Entry → ListsSeen → ListKind → List ℕ → Result HeaderParser ℕ
+abbrev pub with_list : ℕ → PartialHeader → TableEntry → ListsSeen → ListKind → List ℕ → Result HeaderParser ℕ
 with_list n parts e seen which ns = if_fits (list_fits e seen which ns) n (parser_at (InLists (put_list e which ns) (seen_with seen which)) parts)
 
-abbrev pub in_lists : ℕ → PartialHeader → Entry → ListsSeen → LineToken → Result HeaderParser ℕ
+abbrev pub in_lists : ℕ → PartialHeader → TableEntry → ListsSeen → LineToken → Result HeaderParser ℕ
 in_lists n parts e seen (Listed which ns) = with_list n parts e seen which ns
 in_lists n parts e seen s = in_texts n parts e s
 
@@ -157,7 +157,7 @@ at_entry n parts _ = Err n
 abbrev pub none_seen : ListsSeen
 none_seen = record { included = false; excluded = false; ignored = false }
 
-abbrev pub entry : ℕ → ℕ → ℕ → ℕ → Record → Entry
+abbrev pub entry : ℕ → ℕ → ℕ → ℕ → Record → TableEntry
 entry n i d u row = record { line = n; row = record row { inserted = i; deleted = d; unchanged = u } }
 
 abbrev pub at_delta : ℕ → PartialHeader → ℕ → ℕ → ℕ → LineToken → Result HeaderParser ℕ

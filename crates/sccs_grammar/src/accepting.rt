@@ -4,7 +4,7 @@ ghost use Rattle.sccs_grammar.specs.Entries.{with_entry as with_entry_spec};
 ghost use Rattle.sccs_grammar.specs.Front.{Accepts, AcceptsAt, AcceptsIn, after, at_delta, at_entry, ends_table, in_description, in_flags, in_lists, in_texts, in_users, list_fits, dangling_predecessor, new_flag, put_list, parser_at, seen_with, with_comment, with_list, with_mr};
 
 use crate::header_parsers::{
-    Entry, FrontFault, HeaderParser, HeaderState, ListsSeen, PartialHeader,
+    FrontFault, HeaderParser, HeaderState, ListsSeen, PartialHeader, TableEntry,
 };
 use crate::table_tests::{all_below, flag_fits, is_new, share};
 use crate::tables::{Table, with_entry};
@@ -23,7 +23,7 @@ fn refuse(number: u64, token: LineToken) -> Result<HeaderState, FrontFault>
 }
 
 // the same within an entry
-fn refuse_entry(number: u64, entry: Entry, token: LineToken) -> Result<HeaderState, FrontFault>
+fn refuse_entry(number: u64, entry: TableEntry, token: LineToken) -> Result<HeaderState, FrontFault>
     ensures { result ≡ Err (FrontFault.Format number) }
 {
     drop(entry);
@@ -31,7 +31,7 @@ fn refuse_entry(number: u64, entry: Entry, token: LineToken) -> Result<HeaderSta
 }
 
 // the entry with an MR more
-fn with_mr(mut entry: Entry, line: Line) -> Result<Entry, FrontFault>
+fn with_mr(mut entry: TableEntry, line: Line) -> Result<TableEntry, FrontFault>
     ensures { Accepts result (Ok (with_mr entry line)) }
 {
     match entry.row.push_mr(line) {
@@ -41,7 +41,7 @@ fn with_mr(mut entry: Entry, line: Line) -> Result<Entry, FrontFault>
 }
 
 // the entry with a comment more
-fn with_comment(alloc: Global, mut entry: Entry, line: Line) -> Result<Entry, FrontFault>
+fn with_comment(alloc: Global, mut entry: TableEntry, line: Line) -> Result<TableEntry, FrontFault>
     ensures { Accepts result (Ok (with_comment entry line)) }
 {
     match entry.row.push_comment(alloc, line) {
@@ -55,7 +55,7 @@ fn with_comment(alloc: Global, mut entry: Entry, line: Line) -> Result<Entry, Fr
 fn end_entry(
     alloc: Global,
     parts: &mut PartialHeader,
-    entry: Entry,
+    entry: TableEntry,
 ) -> Result<HeaderState, FrontFault>
     ensures { AcceptsAt parts.new result (Ok (parser_at HeaderState.AtEntry (record parts.old { table = with_entry_spec parts.old.table entry }))) }
 {
@@ -69,7 +69,7 @@ fn in_texts(
     alloc: Global,
     number: u64,
     parts: &mut PartialHeader,
-    entry: Entry,
+    entry: TableEntry,
     token: LineToken,
 ) -> Result<HeaderState, FrontFault>
     ensures { AcceptsAt parts.new result (in_texts number parts.old entry token) }
@@ -84,7 +84,7 @@ fn in_texts(
 
 // whether a list of one kind may stand: once, of smaller serials, of which none is both included and
 // excluded
-fn list_fits(entry: &Entry, seen: ListsSeen, which: ListKind, serials: &[u16]) -> bool
+fn list_fits(entry: &TableEntry, seen: ListsSeen, which: ListKind, serials: &[u16]) -> bool
     ensures { result ≡ list_fits entry.now seen which serials.now }
 {
     let row = entry.row.as_record();
@@ -96,7 +96,7 @@ fn list_fits(entry: &Entry, seen: ListsSeen, which: ListKind, serials: &[u16]) -
     }
 }
 
-fn put_list(mut entry: Entry, which: ListKind, serials: Serials) -> Entry
+fn put_list(mut entry: TableEntry, which: ListKind, serials: Serials) -> TableEntry
     ensures { result ≡ put_list entry which serials }
 {
     match which {
@@ -121,7 +121,7 @@ fn seen_with(mut seen: ListsSeen, which: ListKind) -> ListsSeen
 #[inline(never)]
 fn with_list(
     number: u64,
-    entry: Entry,
+    entry: TableEntry,
     seen: ListsSeen,
     which: ListKind,
     serials: Serials,
@@ -139,7 +139,7 @@ fn in_lists(
     alloc: Global,
     number: u64,
     parts: &mut PartialHeader,
-    entry: Entry,
+    entry: TableEntry,
     seen: ListsSeen,
     token: LineToken,
 ) -> Result<HeaderState, FrontFault>
@@ -197,7 +197,7 @@ fn begin_entry(
         excluded: false,
         ignored: false,
     };
-    Ok(HeaderState::InLists(Entry { line: number, row }, none_seen))
+    Ok(HeaderState::InLists(TableEntry { line: number, row }, none_seen))
 }
 
 // the delta line of an entry

@@ -17,7 +17,7 @@ pub enum FrontFault {
 
 /// An entry of the table, and the number of its delta line.
 #[derive(Drop)]
-pub struct Entry {
+pub struct TableEntry {
     pub line: u64,
     pub row: BoxedRecord,
 }
@@ -38,9 +38,9 @@ pub enum HeaderState {
     /// Behind the counts of an entry.
     AtDelta(u32, u32, u32),
     /// Among the lists of an entry.
-    InLists(Entry, ListsSeen),
+    InLists(TableEntry, ListsSeen),
     /// Behind the first MR or comment of an entry.
-    InTexts(Entry),
+    InTexts(TableEntry),
     InUsers,
     InFlags,
     InDescription,

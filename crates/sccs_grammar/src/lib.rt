@@ -14,7 +14,9 @@ mod tables;
 pub use accepting::accept;
 pub use faults::FileFault;
 pub use file_refusals::files_are_refused;
-pub use header_parsers::{Entry, FrontFault, HeaderParser, HeaderState, ListsSeen, PartialHeader};
+pub use header_parsers::{
+    FrontFault, HeaderParser, HeaderState, ListsSeen, PartialHeader, TableEntry,
+};
 pub use laws::{
     body_again, delta_again, entry_parts_again, faults_stay, file_again, headers_keep_rules,
     short_parts_again,

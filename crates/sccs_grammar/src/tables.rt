@@ -5,7 +5,7 @@ ghost use Rattle.sccs_history.specs.Numbers.{has};
 ghost use Rattle.sccs_grammar.specs.Entries.{no_entries, with_entry};
 ghost use Rattle.sccs_grammar.specs.Front.{Accepts, dangling_predecessor, may_follow};
 
-use crate::header_parsers::{Entry, FrontFault};
+use crate::header_parsers::{FrontFault, TableEntry};
 use crate::live_sids::{LiveSids, with_sid};
 use crate::table_tests::least;
 use sccs_base::ListOf;
@@ -135,7 +135,7 @@ impl Table {
 }
 
 /// A table with an entry more.
-pub fn with_entry(alloc: Global, table: Table, entry: Entry) -> Result<Table, FrontFault>
+pub fn with_entry(alloc: Global, table: Table, entry: TableEntry) -> Result<Table, FrontFault>
     ensures { Accepts result (Ok (with_entry table entry)) }
 {
     let Table {
@@ -143,7 +143,7 @@ pub fn with_entry(alloc: Global, table: Table, entry: Entry) -> Result<Table, Fr
         mut lines,
         sids,
     } = table;
-    let Entry { line, row } = entry;
+    let TableEntry { line, row } = entry;
     let Ok(sids) = with_sid(alloc, sids, records.items(), row.as_record()) else {
         return Err(FrontFault::Memory);
     };

@@ -11,7 +11,7 @@ use Rattle.sccs_history.specs.declared.headers.Flag.{Flag}
 use Rattle.sccs_history.specs.declared.headers.Header.{Header}
 use Rattle.sccs_grammar.specs.Front.{ParsedFront, all_below, ends_table, entry, flag_fits, front_from, if_fits, least, may_follow, none_seen, parser_at, start, table_alone, with_comment, with_mr}
 use Rattle.sccs_tokens.specs.Written.{delta_part}
-use Rattle.sccs_grammar.specs.declared.header_parsers.Entry.{Entry}
+use Rattle.sccs_grammar.specs.declared.header_parsers.TableEntry.{TableEntry}
 use Rattle.sccs_grammar.specs.declared.header_parsers.PartialHeader.{PartialHeader}
 use Rattle.sccs_grammar.specs.declared.header_parsers.HeaderState.TheVariants.{AtEntry, InLists, InTexts, InUsers, InFlags, InDescription, AtBody}
 use Rattle.sccs_grammar.specs.declared.header_parsers.HeaderParser.{HeaderParser}
@@ -68,7 +68,7 @@ flags_go (f ∷ fs) n parts are own new rest =
 
 -- ---- an entry
 
-texts_go : (texts : List EntryText) (n : ℕ) (parts : PartialHeader) (e : Entry) (rest : List LineToken)
+texts_go : (texts : List EntryText) (n : ℕ) (parts : PartialHeader) (e : TableEntry) (rest : List LineToken)
     → (m : ℕ) × (run n (parser_at (InTexts e) parts) (map text_says texts ++ (EndEntry ∷ rest)) ≡ run m (parser_at AtEntry (more parts e.line (text_row e.row texts))) rest)
 texts_go [] n parts e rest =
     (suc n, at_other (suc n) _ _ rest (ap (λ (r : Record). parser_at AtEntry (more parts e.line r)) (no_texts e.row)))
@@ -80,7 +80,7 @@ texts_go (CommentText t ∷ texts) n parts e rest =
     (later.0, later.1 ∙ at_other later.0 _ _ rest (ap (λ (cs : List (List ℕ)). parser_at AtEntry (more parts e.line (record e.row { mrs = e.row.mrs ++ mrs_in texts; comments = cs }))) (push_more e.row.comments t (comments_in texts))))
 
 -- no list comes any more
-to_texts : (texts : List EntryText) (n : ℕ) (parts : PartialHeader) (e : Entry) (seen : ListsSeen) (rest : List LineToken)
+to_texts : (texts : List EntryText) (n : ℕ) (parts : PartialHeader) (e : TableEntry) (seen : ListsSeen) (rest : List LineToken)
     → run n (parser_at (InLists e seen) parts) (map text_says texts ++ (EndEntry ∷ rest)) ≡ run n (parser_at (InTexts e) parts) (map text_says texts ++ (EndEntry ∷ rest))
 to_texts [] n parts e seen rest = refl
 to_texts (MrText t ∷ texts) n parts e seen rest = refl
@@ -99,7 +99,7 @@ row_with r done = record r {
   comments = [];
 }
 
-abbrev held : ℕ → Record → List ListKind → Entry
+abbrev held : ℕ → Record → List ListKind → TableEntry
 held line r done = record { line = line; row = row_with r done }
 
 abbrev stood_by : List ListKind → ListsSeen
@@ -184,7 +184,7 @@ entry_goes e n parts all rest is is_row follows =
     let texts : List LineToken = map text_says e.texts in
     let after_lists : List LineToken = texts ++ (EndEntry ∷ rest) in
     let listed = lists_go e.lists [] (suc (suc n)) parts (suc n) all r after_lists is_row is.once (none_done e.lists) in
-    let final : Entry = held (suc n) r listed.1.0 in
+    let final : TableEntry = held (suc n) r listed.1.0 in
     let texted = texts_go e.texts listed.0 parts final rest in
     let begun : HeaderParser = parser_at (InLists (entry (suc n) r.inserted r.deleted r.unchanged (delta_part r)) none_seen) parts in (
       texted.0,

@@ -8,7 +8,7 @@ use Rattle.sccs_grammar.specs.Front.{after, front_from, header_of, is_whole, lin
 use Rattle.sccs_grammar.specs.declared.header_parsers.HeaderParser.{HeaderParser}
 use Rattle.sccs_grammar.specs.declared.header_parsers.PartialHeader.{PartialHeader}
 use Rattle.sccs_grammar.specs.declared.header_parsers.HeaderState.{HeaderState}
-use Rattle.sccs_grammar.specs.declared.header_parsers.Entry.{Entry}
+use Rattle.sccs_grammar.specs.declared.header_parsers.TableEntry.{TableEntry}
 use Rattle.sccs_grammar.specs.declared.header_parsers.HeaderState.TheVariants.{AtEntry, AtDelta, InLists, InTexts, InUsers, InFlags, InDescription, AtBody}
 use Rattle.sccs_tokens.specs.declared.line_tokens.LineToken.{LineToken}
 use Rattle.sccs_tokens.specs.declared.line_tokens.LineToken.TheVariants.{EndEntry, Users, EndUsers, Description, EndDescription}
@@ -61,7 +61,7 @@ at_entry : (n : ℕ) (parts : PartialHeader) → KeepsAll parts.table → Header
 at_entry n parts keeps = before_others n (parser_at AtEntry parts) (parser_at InUsers parts) (mark 117) Users token_users (table_ends n parts keeps) refl (in_users (suc n) parts)
 
 -- the parts with one more entry
-abbrev more_entries : PartialHeader → Entry → PartialHeader
+abbrev more_entries : PartialHeader → TableEntry → PartialHeader
 more_entries parts e = record parts { table = with_entry parts.table e }
 
 ends_at : (n : ℕ) (state : HeaderState) (parts : PartialHeader) → IsViable (parser_at state parts) → HeaderCompletion n (parser_at state parts)

@@ -14,7 +14,7 @@ use Rattle.sccs_grammar.specs.Entries.{with_entry}
 use Rattle.sccs_grammar.specs.Front.{ParsedFront, after, all_below, at_delta, at_entry, ends_table, entry, flag_fits, front_from, header_of, if_fits, in_description, in_flags, in_lists, in_texts, in_users, is_whole, dangling_predecessor, may_follow, none_seen, parser_at, start, with_comment, with_list, with_mr, put_list, seen_with}
 use Rattle.sccs_tokens.specs.Tokens.{token}
 use Rattle.sccs_tokens.specs.Written.{delta_part}
-use Rattle.sccs_grammar.specs.declared.header_parsers.Entry.{Entry}
+use Rattle.sccs_grammar.specs.declared.header_parsers.TableEntry.{TableEntry}
 use Rattle.sccs_grammar.specs.declared.header_parsers.PartialHeader.{PartialHeader}
 use Rattle.sccs_grammar.specs.declared.header_parsers.HeaderState.{HeaderState}
 use Rattle.sccs_grammar.specs.declared.header_parsers.HeaderState.TheVariants.{AtEntry, AtDelta, InLists, InTexts, InUsers, InFlags, InDescription, AtBody}
@@ -64,7 +64,7 @@ record TableShape (parts : PartialHeader) (ss : List LineToken) (h : Header) : T
   say : ss ≡ flat_map entry_says entries ++ after_table users flags lines
   header : h ≡ record { records = parts.table.records ++ map (λ e. e.row) entries; users = parts.users ++ users; flags = parts.flags ++ flags; description = parts.description ++ lines }
 
-record TextsShape (parts : PartialHeader) (e : Entry) (ss : List LineToken) (h : Header) : Type 0 where
+record TextsShape (parts : PartialHeader) (e : TableEntry) (ss : List LineToken) (h : Header) : Type 0 where
   texts : List EntryText
   rest : List LineToken
   say : ss ≡ map text_says texts ++ (EndEntry ∷ rest)
@@ -78,7 +78,7 @@ stood_has seen Included = seen.included
 stood_has seen Excluded = seen.excluded
 stood_has seen Ignored = seen.ignored
 
-record ListsShape (parts : PartialHeader) (e : Entry) (seen : ListsSeen) (ss : List LineToken) (h : Header) : Type 0 where
+record ListsShape (parts : PartialHeader) (e : TableEntry) (seen : ListsSeen) (ss : List LineToken) (h : Header) : Type 0 where
   row : Record
   lists : List ListKind
   texts : List EntryText
@@ -200,7 +200,7 @@ users_line n parts _ q ss h is shape = no_error n q is
 at_row : (parts : PartialHeader) (line : ℕ) (r s : Record) (ss : List LineToken) (h : Header) → r ≡ s → TableShape (more parts line r) ss h → TableShape (more parts line s) ss h
 at_row parts line r s ss h same table = subst (λ (x : Record). TableShape (more parts line x) ss h) same table
 
-texts_line : (n : ℕ) (parts : PartialHeader) (e : Entry) (s : LineToken) (q : HeaderParser) (ss : List LineToken) (h : Header) → in_texts n parts e s ≡ Ok q → ShapeAt q.state q.parts ss h → TextsShape parts e (s ∷ ss) h
+texts_line : (n : ℕ) (parts : PartialHeader) (e : TableEntry) (s : LineToken) (q : HeaderParser) (ss : List LineToken) (h : Header) → in_texts n parts e s ≡ Ok q → ShapeAt q.state q.parts ss h → TextsShape parts e (s ∷ ss) h
 texts_line n parts e (Mr t) q ss h is shape =
     let later = at_read q (parser_at (InTexts (with_mr e t)) parts) ss h (only_ok _ q is) shape in
     record {
@@ -235,7 +235,7 @@ same_lists r texts Excluded = refl
 same_lists r texts Ignored = refl
 
 -- no list comes, and then MRs and comments
-no_lists : (parts : PartialHeader) (e : Entry) (seen : ListsSeen) (ss : List LineToken) (h : Header) → TextsShape parts e ss h → ListsShape parts e seen ss h
+no_lists : (parts : PartialHeader) (e : TableEntry) (seen : ListsSeen) (ss : List LineToken) (h : Header) → TextsShape parts e ss h → ListsShape parts e seen ss h
 unfolding IsDistinct
 no_lists parts e seen ss h shape = record {
   row = text_row e.row shape.texts;
@@ -250,7 +250,7 @@ no_lists parts e seen ss h shape = record {
   table = shape.table;
 }
 
-list_read : (which : ListKind) (ns : List ℕ) (n : ℕ) (parts : PartialHeader) (e : Entry) (seen : ListsSeen) (q : HeaderParser) → with_list n parts e seen which ns ≡ Ok q
+list_read : (which : ListKind) (ns : List ℕ) (n : ℕ) (parts : PartialHeader) (e : TableEntry) (seen : ListsSeen) (q : HeaderParser) → with_list n parts e seen which ns ≡ Ok q
     → (stood_has seen which ≡ false) × (q ≡ parser_at (InLists (put_list e which ns) (seen_with seen which)) parts)
 list_read Included ns n parts e seen q is =
     let fits = fits_ok (not seen.included && all_below e.row.serial ns && not (share ns e.row.exclude)) n _ q is in
@@ -264,12 +264,12 @@ list_read Ignored ns n parts e seen q is =
     let fits = fits_ok (not seen.ignored && all_below e.row.serial ns) n _ q is in
     (not-true seen.ignored (and_parts (not seen.ignored) (all_below e.row.serial ns) fits.0).0, fits.1)
 
-set_same : (e : Entry) (which : ListKind) (ns : List ℕ) → serials_listed (put_list e which ns).row which ≡ ns
+set_same : (e : TableEntry) (which : ListKind) (ns : List ℕ) → serials_listed (put_list e which ns).row which ≡ ns
 set_same e Included ns = refl
 set_same e Excluded ns = refl
 set_same e Ignored ns = refl
 
-set_other : (e : Entry) (w which : ListKind) (ns : List ℕ) → same_list w which ≡ false → serials_listed (put_list e which ns).row w ≡ serials_listed e.row w
+set_other : (e : TableEntry) (w which : ListKind) (ns : List ℕ) → same_list w which ≡ false → serials_listed (put_list e which ns).row w ≡ serials_listed e.row w
 set_other e Included Included ns other = absurd cc
 set_other e Included Excluded ns other = refl
 set_other e Included Ignored ns other = refl
@@ -280,12 +280,12 @@ set_other e Ignored Included ns other = refl
 set_other e Ignored Excluded ns other = refl
 set_other e Ignored Ignored ns other = absurd cc
 
-set_line : (e : Entry) (which : ListKind) (ns : List ℕ) → (put_list e which ns).line ≡ e.line
+set_line : (e : TableEntry) (which : ListKind) (ns : List ℕ) → (put_list e which ns).line ≡ e.line
 set_line e Included ns = refl
 set_line e Excluded ns = refl
 set_line e Ignored ns = refl
 
-set_rest : (e : Entry) (which : ListKind) (ns : List ℕ) (texts : List EntryText) → without_lists (text_row (put_list e which ns).row texts) ≡ without_lists (text_row e.row texts)
+set_rest : (e : TableEntry) (which : ListKind) (ns : List ℕ) (texts : List EntryText) → without_lists (text_row (put_list e which ns).row texts) ≡ without_lists (text_row e.row texts)
 set_rest e Included ns texts = refl
 set_rest e Excluded ns texts = refl
 set_rest e Ignored ns texts = refl
@@ -329,7 +329,7 @@ still_free seen which w lists true is gone has none = absurd (both (sym has ∙ 
     both same = cc
 still_free seen which w lists false is gone has none = none
 
-list_line : (n : ℕ) (parts : PartialHeader) (e : Entry) (seen : ListsSeen) (which : ListKind) (ns : List ℕ) (q : HeaderParser) (ss : List LineToken) (h : Header) → with_list n parts e seen which ns ≡ Ok q → ShapeAt q.state q.parts ss h
+list_line : (n : ℕ) (parts : PartialHeader) (e : TableEntry) (seen : ListsSeen) (which : ListKind) (ns : List ℕ) (q : HeaderParser) (ss : List LineToken) (h : Header) → with_list n parts e seen which ns ≡ Ok q → ShapeAt q.state q.parts ss h
     → ListsShape parts e seen (Listed which ns ∷ ss) h
 unfolding IsDistinct
 list_line n parts e seen which ns q ss h is shape =
@@ -353,7 +353,7 @@ list_line n parts e seen which ns q ss h is shape =
       table = subst (λ (line : ℕ). TableShape (more parts line later.row) later.rest h) (set_line e which ns) later.table;
     }
 
-lists_line : (n : ℕ) (parts : PartialHeader) (e : Entry) (seen : ListsSeen) (s : LineToken) (q : HeaderParser) (ss : List LineToken) (h : Header) → in_lists n parts e seen s ≡ Ok q → ShapeAt q.state q.parts ss h → ListsShape parts e seen (s ∷ ss) h
+lists_line : (n : ℕ) (parts : PartialHeader) (e : TableEntry) (seen : ListsSeen) (s : LineToken) (q : HeaderParser) (ss : List LineToken) (h : Header) → in_lists n parts e seen s ≡ Ok q → ShapeAt q.state q.parts ss h → ListsShape parts e seen (s ∷ ss) h
 lists_line n parts e seen (Listed which ns) q ss h is shape = list_line n parts e seen which ns q ss h is shape
 lists_line n parts e seen s q ss h is shape = no_lists parts e seen (s ∷ ss) h (texts_line n parts e s q ss h is shape)
 

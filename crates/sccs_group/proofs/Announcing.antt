@@ -3,7 +3,7 @@ use Rattle.std.proofs.Common.{◌≡◌, ℕ, true, false, List, [], ◌∷◌, 
 use Rattle.std.specs.Prelude.{IsSome}
 use Rattle.std.specs.List.{AllByRecursion}
 use Rattle.std.specs.Str.{bytes_eq}
-use Rattle.sccs_base.specs.Name.{IsSfile, p_file, q_file, x_file, z_file}
+use Rattle.sccs_base.specs.Name.{IsSFileName, p_file, q_file, x_file, z_file}
 use Rattle.sccs_base.proofs.SameBytes.{same_bytes}
 use Rattle.sccs_disk.specs.Calls.{Done, Half}
 use Rattle.sccs_disk.specs.Effects.{pended, renamed, renaming}
@@ -17,12 +17,12 @@ use Rattle.sccs_name_files.proofs.Owned.{firm_stays}
 use Rattle.sccs_name_files.proofs.Touched.{newest_more}
 use Rattle.sccs_intents.specs.Intents.{entries_in, fate_in, intent_file, plan_file, well_formed}
 use Rattle.sccs_intents.specs.Written.{intent_text}
-use Rattle.sccs_intents.specs.declared.intents.Entry.{Entry}
+use Rattle.sccs_intents.specs.declared.intents.IntentEntry.{IntentEntry}
 use Rattle.sccs_intents.specs.declared.intents.Fate.{Fate}
 use Rattle.sccs_intents.specs.declared.intents.Fate.TheVariants.{Replaced}
 use Rattle.sccs_intents.proofs.IntentTexts.{text_again}
 use Rattle.sccs_crash_points.specs.Calm.{HasFirm, IsCalm}
-use Rattle.sccs_crash_points.specs.Moments.{Guards, IsFrom, Went}
+use Rattle.sccs_crash_points.specs.CrashPoints.{Guards, IsFrom, Went}
 use Rattle.sccs_crash_points.specs.Recovery.{IsSettledPair, RecoversAs, fate_at, fated, newer, pair_of, recover}
 use Rattle.sccs_crash_points.proofs.CalmDisks.{full_there, looks_firm}
 use Rattle.sccs_crash_points.proofs.Joined.{numbered_zero, raised, went_then, each_then, each_by}
@@ -47,7 +47,7 @@ use Rattle.sccs_crash_points.proofs.FileNames.{plan_and_sfile, intent_and_sfile}
 abbrev named : View → View
 named v = renamed plan_file intent_file v
 
-pub other_s : (v : View) (n : List ℕ) → IsSfile n → renamed plan_file intent_file v n ≡ v n
+pub other_s : (v : View) (n : List ℕ) → IsSFileName n → renamed plan_file intent_file v n ≡ v n
 other_s v n sfile = renamed_other plan_file intent_file v n (plan_and_sfile n sfile) (intent_and_sfile n sfile)
 
 pub other_file : (v : View) (l : List ℕ) → bytes_eq plan_file l ≡ false → bytes_eq intent_file l ≡ false → renamed plan_file intent_file v l ≡ v l
@@ -88,7 +88,7 @@ has_group ms m written can = record { entries = written_entries ms (view_of m) w
 -- a name of the intent is that of a member
 member_at : (ms : List Member) (m : Model) (n : List ℕ) (fate : Fate) → IsWritten ms → CanAnnounce ms m → fate_at (renamed plan_file intent_file (view_of m)) n ≡ Some fate → Named (CanPlace m) n fate
 member_at ms m n fate written can is =
-    member_by (CanPlace m) ms n fate (sym (ap (λ (es : List Entry). fate_in es n) (has_group ms m written can).entries) ∙ is) can.group.each
+    member_by (CanPlace m) ms n fate (sym (ap (λ (es : List IntentEntry). fate_in es n) (has_group ms m written can).entries) ∙ is) can.group.each
 
 with_fate : (P : Type 0) (f : Option Fate) → IsSome f → ((fate : Fate) → f ≡ Some fate → P) → P
 with_fate P None some holds = absurd (cc)
@@ -122,7 +122,7 @@ announce_looks ms m u written can full = record {
 -- ---- the group may be finished
 
 -- recovery makes the new pair of a name of the intent
-pub announced_pair : (v : View) (n : List ℕ) (fate : Fate) → IsSfile n → fate_at (renamed plan_file intent_file v) n ≡ Some fate
+pub announced_pair : (v : View) (n : List ℕ) (fate : Fate) → IsSFileName n → fate_at (renamed plan_file intent_file v) n ≡ Some fate
     → pair_of (recover n (renamed plan_file intent_file v)) n ≡ pair (newer (v (x_file n)) (v n)) (fated fate (v (q_file n)) (v (p_file n)))
 announced_pair v n fate sfile is =
     recovered_is n (named v) sfile

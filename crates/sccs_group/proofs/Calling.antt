@@ -3,7 +3,7 @@ use Rattle.std.proofs.Common.{◌≡◌, ◌⊎◌, ℕ, Bool, true, false, cond
 use Rattle.std.specs.Prelude.{IsSome}
 use Rattle.std.specs.Str.{bytes_eq}
 use Rattle.std.proofs.Math.Path.{fun_ext}
-use Rattle.sccs_base.specs.Name.{IsSfile, p_file, q_file, x_file, z_file}
+use Rattle.sccs_base.specs.Name.{IsSFileName, p_file, q_file, x_file, z_file}
 use Rattle.sccs_disk.specs.Calls.{Done, Half}
 use Rattle.sccs_disk.specs.Effects.{pended, renamed, settled, syncing_names}
 use Rattle.sccs_disk.specs.Files.{Content, File, Model, Names, Op, Remove, Rename, View, file_at, names, view_of}
@@ -16,7 +16,7 @@ use Rattle.sccs_intents.specs.Intents.{intent_file}
 use Rattle.sccs_intents.specs.declared.intents.Fate.{Fate}
 use Rattle.sccs_intents.specs.declared.intents.Fate.TheVariants.{Replaced, Removed}
 use Rattle.sccs_crash_points.specs.Calm.{HasFirm}
-use Rattle.sccs_crash_points.specs.Moments.{Guards}
+use Rattle.sccs_crash_points.specs.CrashPoints.{Guards}
 use Rattle.sccs_crash_points.specs.Recovery.{IsSettledPair, IsSound, RecoversAs, fate_at, is_kept, pair_of, recover, without_name, IsHeldAt}
 use Rattle.sccs_crash_points.proofs.CalmDisks.{calm_settled, firm_looks, firm_pairs, full_there, looks_firm}
 use Rattle.sccs_crash_points.proofs.FileNames.{intent_and_sfile}
@@ -126,7 +126,7 @@ named_at m u n f can full is = fate_same n (view_of m) u (looks_at m u can full)
 there_at : (m : Model) (u : View) (k : List ℕ) → Full m u → IsSome (view_of m k) → IsSome (u k)
 there_at m u k full there = full_there m u full k ∙ there
 
-pub x_goes : (n : List ℕ) (fate : Fate) (m : Model) → IsSfile n → CanFinish m → fate_at (view_of m) n ≡ Some fate → IsSome (view_of m (x_file n)) → Goes (renamed (x_file n) n) m
+pub x_goes : (n : List ℕ) (fate : Fate) (m : Model) → IsSFileName n → CanFinish m → fate_at (view_of m) n ≡ Some fate → IsSome (view_of m (x_file n)) → Goes (renamed (x_file n) n) m
 x_goes n fate m sfile can named there =
     harmless_goes (renamed (x_file n) n) m can (λ u full. x_harmless n fate u sfile (named_at m u n (Some fate) can full named) (there_at m u (x_file n) full there)) now
     (λ u full. renamed_looks (x_file n) n (view_of m) u (same_less (view_of m) (renamed (x_file n) n (view_of m)) now.intent)
@@ -135,7 +135,7 @@ x_goes n fate m sfile can named there =
     now : IsHarmless (renamed (x_file n) n) (view_of m)
     now = x_harmless n fate (view_of m) sfile named there
 
-pub q_goes : (n : List ℕ) (m : Model) → IsSfile n → CanFinish m → fate_at (view_of m) n ≡ Some Replaced → IsSome (view_of m (q_file n)) → Goes (renamed (q_file n) (p_file n)) m
+pub q_goes : (n : List ℕ) (m : Model) → IsSFileName n → CanFinish m → fate_at (view_of m) n ≡ Some Replaced → IsSome (view_of m (q_file n)) → Goes (renamed (q_file n) (p_file n)) m
 q_goes n m sfile can named there =
     harmless_goes (renamed (q_file n) (p_file n)) m can (λ u full. q_harmless n u sfile (named_at m u n (Some Replaced) can full named) (there_at m u (q_file n) full there)) now
     (λ u full. renamed_looks (q_file n) (p_file n) (view_of m) u (same_less (view_of m) (renamed (q_file n) (p_file n) (view_of m)) now.intent)
@@ -144,7 +144,7 @@ q_goes n m sfile can named there =
     now : IsHarmless (renamed (q_file n) (p_file n)) (view_of m)
     now = q_harmless n (view_of m) sfile named there
 
-pub p_goes : (n : List ℕ) (m : Model) → IsSfile n → CanFinish m → fate_at (view_of m) n ≡ Some Removed → Goes (without_name (p_file n)) m
+pub p_goes : (n : List ℕ) (m : Model) → IsSFileName n → CanFinish m → fate_at (view_of m) n ≡ Some Removed → Goes (without_name (p_file n)) m
 p_goes n m sfile can named =
     harmless_goes (without_name (p_file n)) m can (λ u full. p_harmless n u sfile (named_at m u n (Some Removed) can full named)) now
     (λ u full. without_looks (p_file n) (view_of m) u (same_less (view_of m) (without_name (p_file n) (view_of m)) now.intent) (looks_at m u can full))
@@ -160,7 +160,7 @@ other_goes g m plain can =
     now : IsHarmless (without_name g) (view_of m)
     now = other_harmless g (view_of m) plain
 
-pub z_goes : (n : List ℕ) (m : Model) → IsSfile n → CanFinish m → IsSound n (view_of m) → Goes (without_name (z_file n)) m
+pub z_goes : (n : List ℕ) (m : Model) → IsSFileName n → CanFinish m → IsSound n (view_of m) → Goes (without_name (z_file n)) m
 z_goes n m sfile can sound =
     harmless_goes (without_name (z_file n)) m can
     (λ u full. z_harmless n u sfile (sound_kept n (view_of m) u sound (looks_at m u can full).intent (firm_pairs m u can.firm full n sfile))) now
@@ -180,11 +180,11 @@ taken_pair Removed n v taken =
     ∙ ap (λ (o : Option Content). pair (v n) o) (sym taken.1)
 
 -- recovery leaves the pair of a name whose new files are in their places
-pub taken_recovers : (n : List ℕ) (fate : Fate) (v : View) → IsSfile n → fate_at v n ≡ Some fate → TakenBy fate n v → pair_of (recover n v) n ≡ pair_of v n
+pub taken_recovers : (n : List ℕ) (fate : Fate) (v : View) → IsSFileName n → fate_at v n ≡ Some fate → TakenBy fate n v → pair_of (recover n v) n ≡ pair_of v n
 taken_recovers n fate v sfile named taken = recovered_is n v sfile ∙ (recovered_under n v (Some fate) named ∙ taken_pair fate n v taken)
 
 -- the pair of a taken name is settled
-pub taken_settled : (n : List ℕ) (fate : Fate) (v : View) → IsSfile n → IsSettled v → fate_at v n ≡ Some fate → TakenBy fate n v → IsSettledPair (pair_of v n)
+pub taken_settled : (n : List ℕ) (fate : Fate) (v : View) → IsSFileName n → IsSettled v → fate_at v n ≡ Some fate → TakenBy fate n v → IsSettledPair (pair_of v n)
 taken_settled n fate v sfile settled named taken = subst IsSettledPair (taken_recovers n fate v sfile named taken) (settled n sfile (ap is_some named))
 
 -- without the intent no name is named
@@ -197,7 +197,7 @@ unnamed_left v n = none_left (without_name intent_file v) n (put_same v intent_f
 intent_other : (v : View) (l : List ℕ) → bytes_eq intent_file l ≡ false → without_name intent_file v l ≡ v l
 intent_other v l apart = put_other v intent_file l None apart
 
-own_by : (n : List ℕ) (v : View) (f : Option Fate) → IsSfile n → fate_at v n ≡ f → IsTaken v → IsSettled v → recovered_at (without_name intent_file v) n ≡ recovered_at v n
+own_by : (n : List ℕ) (v : View) (f : Option Fate) → IsSFileName n → fate_at v n ≡ f → IsTaken v → IsSettled v → recovered_at (without_name intent_file v) n ≡ recovered_at v n
 own_by n v None sfile is taken settled = recovered_alike n v (without_name intent_file v) (record {
   fate = unnamed_left v n ∙ sym is;
   s = intent_other v n (intent_and_sfile n sfile);
@@ -245,23 +245,23 @@ intent_goes m can taken = record {
 
 -- ---- the calls
 
-pub x_story : (n : List ℕ) (fate : Fate) (a b : Told) → IsSfile n → MayCall (Rename (x_file n) n) (x_file n) a b → FinishesBy (λ v. fate_at v n ≡ Some fate) a b
+pub x_story : (n : List ℕ) (fate : Fate) (a b : Told) → IsSFileName n → MayCall (Rename (x_file n) n) (x_file n) a b → FinishesBy (λ v. fate_at v n ≡ Some fate) a b
 x_story n fate a b sfile call =
     by_goes (Rename (x_file n) n) (x_file n) (renamed (x_file n) n) (λ v. fate_at v n ≡ Some fate) a b (λ m. renaming_makes (x_file n) n m) (λ m can named there. x_goes n fate m sfile can named there) call
 
-pub q_story : (n : List ℕ) (a b : Told) → IsSfile n → MayCall (Rename (q_file n) (p_file n)) (q_file n) a b → FinishesBy (λ v. fate_at v n ≡ Some Replaced) a b
+pub q_story : (n : List ℕ) (a b : Told) → IsSFileName n → MayCall (Rename (q_file n) (p_file n)) (q_file n) a b → FinishesBy (λ v. fate_at v n ≡ Some Replaced) a b
 q_story n a b sfile call =
     by_goes (Rename (q_file n) (p_file n)) (q_file n) (renamed (q_file n) (p_file n)) (λ v. fate_at v n ≡ Some Replaced) a b (λ m. renaming_makes (q_file n) (p_file n) m)
     (λ m can named there. q_goes n m sfile can named there) call
 
-pub p_story : (n : List ℕ) (a b : Told) → IsSfile n → MayCall (Remove (p_file n)) (p_file n) a b → FinishesBy (λ v. fate_at v n ≡ Some Removed) a b
+pub p_story : (n : List ℕ) (a b : Told) → IsSFileName n → MayCall (Remove (p_file n)) (p_file n) a b → FinishesBy (λ v. fate_at v n ≡ Some Removed) a b
 p_story n a b sfile call =
     by_goes (Remove (p_file n)) (p_file n) (without_name (p_file n)) (λ v. fate_at v n ≡ Some Removed) a b (λ m. removing_makes (p_file n) m) (λ m can named there. p_goes n m sfile can named) call
 
 pub other_story : (g : List ℕ) (P : View → Type 0) (a b : Told) → is_kept g ≡ false → MayCall (Remove g) g a b → FinishesBy P a b
 other_story g P a b plain call = by_goes (Remove g) g (without_name g) P a b (λ m. removing_makes g m) (λ m can holds there. other_goes g m plain can) call
 
-pub z_story : (n : List ℕ) (a b : Told) → IsSfile n → MayCall (Remove (z_file n)) (z_file n) a b → FinishesBy (IsSound n) a b
+pub z_story : (n : List ℕ) (a b : Told) → IsSFileName n → MayCall (Remove (z_file n)) (z_file n) a b → FinishesBy (IsSound n) a b
 z_story n a b sfile call = by_goes (Remove (z_file n)) (z_file n) (without_name (z_file n)) (IsSound n) a b (λ m. removing_makes (z_file n) m) (λ m can sound there. z_goes n m sfile can sound) call
 
 pub intent_story : (a b : Told) → MayCall (Remove intent_file) intent_file a b → FinishesBy IsTaken a b

@@ -2,7 +2,7 @@
 use Rattle.std.proofs.Common.{◌≡◌, ◌⊎◌, ℕ, Bool, true, false, cond, List, [], ◌∷◌, drop, Option, None, Some, option_map, find, is_some, Result, Ok, Err, inl, inr, refl, sym, ap, subst, ◌∙◌, ⊎_elim}
 use Rattle.std.specs.List.{AllByRecursion}
 use Rattle.std.specs.Str.{bytes_eq}
-use Rattle.sccs_base.specs.Name.{IsSfile, p_file, q_file, x_file, y_file, z_file}
+use Rattle.sccs_base.specs.Name.{IsSFileName, p_file, q_file, x_file, y_file, z_file}
 use Rattle.sccs_base.specs.declared.streams.Failed.{Failed}
 use Rattle.sccs_base.proofs.SameBytes.{same_bytes}
 use Rattle.sccs_disk.specs.Calls.{Changes, Done, Half}
@@ -11,7 +11,7 @@ use Rattle.sccs_disk.specs.Files.{Content, Remove, View}
 use Rattle.sccs_disk.specs.Told.{Told, seen}
 use Rattle.sccs_disk.proofs.Puts.{name_cases, put_other, put_same}
 use Rattle.sccs_intents.specs.Intents.{entries_in, fate_in, has_name, intent_file}
-use Rattle.sccs_intents.specs.declared.intents.Entry.{Entry}
+use Rattle.sccs_intents.specs.declared.intents.IntentEntry.{IntentEntry}
 use Rattle.sccs_intents.specs.declared.intents.Fate.{Fate}
 use Rattle.sccs_intents.specs.declared.intents.Fate.TheVariants.{Replaced, Removed}
 use Rattle.sccs_intents.proofs.Others.{differ}
@@ -30,13 +30,13 @@ use Rattle.sccs_base.proofs.Bools.{right_false, left_false}
 
 -- ---- what the intent says of its members
 
-pub fate_head : (e : Entry) (es : List Entry) (n : List ℕ) → bytes_eq e.name n ≡ true → fate_in (e ∷ es) n ≡ Some e.fate
-fate_head e es n is = ap (λ b. option_map (λ (x : Entry). x.fate) (cond b (Some e) (find (λ (x : Entry). bytes_eq x.name n) es))) is
+pub fate_head : (e : IntentEntry) (es : List IntentEntry) (n : List ℕ) → bytes_eq e.name n ≡ true → fate_in (e ∷ es) n ≡ Some e.fate
+fate_head e es n is = ap (λ b. option_map (λ (x : IntentEntry). x.fate) (cond b (Some e) (find (λ (x : IntentEntry). bytes_eq x.name n) es))) is
 
-pub fate_tail : (e : Entry) (es : List Entry) (n : List ℕ) → bytes_eq e.name n ≡ false → fate_in (e ∷ es) n ≡ fate_in es n
-fate_tail e es n apart = ap (λ b. option_map (λ (x : Entry). x.fate) (cond b (Some e) (find (λ (x : Entry). bytes_eq x.name n) es))) apart
+pub fate_tail : (e : IntentEntry) (es : List IntentEntry) (n : List ℕ) → bytes_eq e.name n ≡ false → fate_in (e ∷ es) n ≡ fate_in es n
+fate_tail e es n apart = ap (λ b. option_map (λ (x : IntentEntry). x.fate) (cond b (Some e) (find (λ (x : IntentEntry). bytes_eq x.name n) es))) apart
 
-tail_fates : (es : List Entry) (e : Entry) (ms : List Member) → has_name (entries_of ms) e.name ≡ false → AllByRecursion (λ (k : Member). fate_in es k.entry.name ≡ Some k.entry.fate) ms
+tail_fates : (es : List IntentEntry) (e : IntentEntry) (ms : List Member) → has_name (entries_of ms) e.name ≡ false → AllByRecursion (λ (k : Member). fate_in es k.entry.name ≡ Some k.entry.fate) ms
     → AllByRecursion (λ (k : Member). fate_in (e ∷ es) k.entry.name ≡ Some k.entry.fate) ms
 tail_fates es e [] none all = tt
 tail_fates es e (k ∷ ms) none all = (
@@ -48,9 +48,9 @@ pub all_fates : (ms : List Member) → AreMembers ms → AllByRecursion (λ (k :
 all_fates [] are = tt
 all_fates (mem ∷ ms) are = (fate_head mem.entry (entries_of ms) mem.entry.name (same_bytes mem.entry.name), tail_fates (entries_of ms) mem.entry ms are.0.alone (all_fates ms are.1))
 
-named_by : (v : View) (es : List Entry) (ms : List Member) → entries_in (v intent_file) ≡ es → AllByRecursion (λ (k : Member). fate_in es k.entry.name ≡ Some k.entry.fate) ms → AllByRecursion IsPlainG ms → AreNamed ms v
+named_by : (v : View) (es : List IntentEntry) (ms : List Member) → entries_in (v intent_file) ≡ es → AllByRecursion (λ (k : Member). fate_in es k.entry.name ≡ Some k.entry.fate) ms → AllByRecursion IsPlainG ms → AreNamed ms v
 named_by v es [] is fates plain = tt
-named_by v es (k ∷ ms) is fates plain = (record { fate = ap (λ (l : List Entry). fate_in l k.entry.name) is ∙ fates.0; plain = plain.0 }, named_by v es ms is fates.1 plain.1)
+named_by v es (k ∷ ms) is fates plain = (record { fate = ap (λ (l : List IntentEntry). fate_in l k.entry.name) is ∙ fates.0; plain = plain.0 }, named_by v es ms is fates.1 plain.1)
 
 pub group_named : (ms : List Member) (v : View) → AreMembers ms → HasGroup ms v → AreNamed ms v
 group_named ms v are has = named_by v (entries_of ms) ms has.entries (all_fates ms are) has.plain
@@ -77,7 +77,7 @@ placed_other mem v l x s q p y g =
     ∙ (p_other mem.entry.fate mem.entry.name (taken (x_file mem.entry.name) mem.entry.name v) l q p ∙ taken_other (x_file mem.entry.name) mem.entry.name v l x s)
 
 -- the files of other names
-pub placed_elsewhere : (mem : Member) (v : View) (n : List ℕ) → IsSfile mem.entry.name → IsPlainG mem → IsSfile n → bytes_eq mem.entry.name n ≡ false → Same n v (placed mem v)
+pub placed_elsewhere : (mem : Member) (v : View) (n : List ℕ) → IsSFileName mem.entry.name → IsPlainG mem → IsSFileName n → bytes_eq mem.entry.name n ≡ false → Same n v (placed mem v)
 placed_elsewhere mem v n own plain sfile apart =
     let m = mem.entry.name in
     record {
@@ -105,7 +105,7 @@ taken_kept : (fate : Fate) (n : List ℕ) (v w : View) → w (x_file n) ≡ v (x
 taken_kept Replaced n v w x q p taken = (x ∙ taken.0, q ∙ taken.1)
 taken_kept Removed n v w x q p taken = (x ∙ taken.0, p ∙ taken.1)
 
-pub placed_taken : (mem : Member) (v : View) → IsSfile mem.entry.name → IsPlainG mem → TakenBy mem.entry.fate mem.entry.name (placed mem v)
+pub placed_taken : (mem : Member) (v : View) → IsSFileName mem.entry.name → IsPlainG mem → TakenBy mem.entry.fate mem.entry.name (placed mem v)
 placed_taken mem v sfile plain =
     let n = mem.entry.name in
     let u : View = p_taken mem.entry.fate n (taken (x_file n) n v) in
@@ -113,7 +113,7 @@ placed_taken mem v sfile plain =
     (later_other mem u (x_file n) refl (λ g. kept_x (drop 2 n) n (plain g) sfile)) (later_other mem u (q_file n) refl (λ g. kept_q (drop 2 n) n (plain g) sfile)) (later_other mem u (p_file n) refl (λ g. kept_p (drop 2 n) n (plain g) sfile))
     (p_none mem.entry.fate n (taken (x_file n) n v) (taken_none (x_file n) n v (to_sfile 120 n n sfile refl)))
 
-stays_taken : (ms : List Member) (v : View) (n : List ℕ) (fate : Fate) → IsSfile n → AreMembers ms → AllByRecursion IsPlainG ms → has_name (entries_of ms) n ≡ false → TakenBy fate n v → TakenBy fate n (each_by placed ms v)
+stays_taken : (ms : List Member) (v : View) (n : List ℕ) (fate : Fate) → IsSFileName n → AreMembers ms → AllByRecursion IsPlainG ms → has_name (entries_of ms) n ≡ false → TakenBy fate n v → TakenBy fate n (each_by placed ms v)
 stays_taken [] v n fate sfile are plain none taken = taken
 stays_taken (mem ∷ ms) v n fate sfile are plain none taken =
     let same : Same n v (placed mem v) = placed_elsewhere mem v n are.0.sfile plain.0 sfile (left_false (bytes_eq mem.entry.name n) (has_name (entries_of ms) n) none) in
@@ -125,7 +125,7 @@ no_fate n fate e = cc
 pub same_fate : (a c : Fate) → Some a ≡ Some c → a ≡ c
 same_fate a c e = cc
 
-pub each_taken : (ms : List Member) (v : View) (n : List ℕ) (fate : Fate) → IsSfile n → AreMembers ms → AllByRecursion IsPlainG ms → fate_in (entries_of ms) n ≡ Some fate → TakenBy fate n (each_by placed ms v)
+pub each_taken : (ms : List Member) (v : View) (n : List ℕ) (fate : Fate) → IsSFileName n → AreMembers ms → AllByRecursion IsPlainG ms → fate_in (entries_of ms) n ≡ Some fate → TakenBy fate n (each_by placed ms v)
 each_taken [] v n fate sfile are plain is = absurd (no_fate n fate is)
 each_taken (mem ∷ ms) v n fate sfile are plain is =
     ⊎_elim
@@ -147,13 +147,13 @@ still_has ms v are has = record { entries = ap entries_in (each_intent ms v are 
 
 pub can_close : (ms : List Member) (v : View) → AreMembers ms → HasGroup ms v → CanClose ms (each_by placed ms v)
 can_close ms v are has = record {
-  taken = λ n sfile fate named. each_taken ms v n fate sfile are has.plain (sym (ap (λ (l : List Entry). fate_in l n) (still_has ms v are has).entries) ∙ named);
+  taken = λ n sfile fate named. each_taken ms v n fate sfile are has.plain (sym (ap (λ (l : List IntentEntry). fate_in l n) (still_has ms v are has).entries) ∙ named);
   named = group_named ms (each_by placed ms v) are (still_has ms v are has);
 }
 
 -- ---- behind the intent
 
-unlocked_by : (n : List ℕ) (fate : Fate) (v : View) → IsSfile n → IsSettled v → IsTaken v → fate_at v n ≡ Some fate → IsSound n (without_name intent_file v)
+unlocked_by : (n : List ℕ) (fate : Fate) (v : View) → IsSFileName n → IsSettled v → IsTaken v → fate_at v n ≡ Some fate → IsSound n (without_name intent_file v)
 unlocked_by n fate v sfile settled taken named = record {
   entries = subst IsSettledPair (sym pair) (taken_settled n fate v sfile settled named (taken n sfile fate named));
   unnamed = unnamed_left v n;

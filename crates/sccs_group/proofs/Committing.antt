@@ -3,7 +3,7 @@ use Rattle.std.proofs.Common.{◌≡◌, ℕ, Bool, false, List, [], ◌∷◌, 
 use Rattle.std.proofs.Math.Path.{fun_ext}
 use Rattle.std.specs.Prelude.{IsSome}
 use Rattle.std.specs.Str.{bytes_eq}
-use Rattle.sccs_base.specs.Name.{IsSfile, p_file, q_file, x_file, z_file}
+use Rattle.sccs_base.specs.Name.{IsSFileName, p_file, q_file, x_file, z_file}
 use Rattle.sccs_disk.specs.Calls.{IsThere}
 use Rattle.sccs_disk.specs.Effects.{renamed}
 use Rattle.sccs_disk.specs.Files.{Content, Model, View, put, view_of}
@@ -18,7 +18,7 @@ use Rattle.sccs_intents.specs.Written.{intent_text}
 use Rattle.sccs_intents.specs.declared.intents.Fate.{Fate}
 use Rattle.sccs_intents.specs.declared.intents.Fate.TheVariants.{Replaced, Removed}
 use Rattle.sccs_crash_points.specs.Calm.{IsCalm}
-use Rattle.sccs_crash_points.specs.Moments.{IsFrom, Went}
+use Rattle.sccs_crash_points.specs.CrashPoints.{IsFrom, Went}
 use Rattle.sccs_crash_points.specs.Recovery.{IsSettledPair, RecoversAs, without_name}
 use Rattle.sccs_crash_points.proofs.CalmDisks.{firms_touched}
 use Rattle.sccs_crash_points.proofs.Joined.{numbered_as, numbered_zero, went_then, each_then, each_by}
@@ -64,7 +64,7 @@ pair_kept mem v w s x q p =
     let n = mem.entry.name in
     pair_same _ _ _ _ (newer_same (w (x_file n)) (v (x_file n)) (w n) (v n) x s) (fated_same mem.entry.fate (v (q_file n)) (w (q_file n)) (v (p_file n)) (w (p_file n)) q p)
 
-place_kept : (mem : Member) (m m2 : Model) → IsSfile mem.entry.name → Touches is_plan m m2 → CanPlace m mem → CanPlace m2 mem
+place_kept : (mem : Member) (m m2 : Model) → IsSFileName mem.entry.name → Touches is_plan m m2 → CanPlace m mem → CanPlace m2 mem
 place_kept mem m m2 sfile touches can = record {
   x_state = firm_touched is_plan m m2 (x_file mem.entry.name) touches refl can.x_state;
   q_state = q_kept mem.entry.fate mem.entry.name m m2 touches can.q_state;

@@ -14,7 +14,7 @@ use Rattle.sccs_disk.proofs.Puts.{put_other}
 use Rattle.sccs_name_files.specs.WholeFiles.{AnswersWhole}
 use Rattle.sccs_name_files.specs.declared.whole_files.WholeFault.TheVariants as whole
 use Rattle.sccs_intents.specs.Intents.{AreOthers, begun, entries_in, intent_file, intent_of, plan_file, well_formed}
-use Rattle.sccs_intents.specs.declared.intents.Entry.{Entry}
+use Rattle.sccs_intents.specs.declared.intents.IntentEntry.{IntentEntry}
 use Rattle.std.specs.Str.{bytes_eq}
 use Rattle.sccs_name_files.specs.Touches.{TouchesOnly}
 use Rattle.sccs_intents.proofs.IntentTexts.{text_read}
@@ -32,19 +32,19 @@ use Rattle.sccs_group.proofs.Runs.{by_then, completes_by}
 
 -- ---- what is read
 
-pub bare_entries : (es : List Entry) → entries_of (bare es) ≡ es
+pub bare_entries : (es : List IntentEntry) → entries_of (bare es) ≡ es
 bare_entries [] = refl
-bare_entries (e ∷ es) = ap (λ (l : List Entry). e ∷ l) (bare_entries es)
+bare_entries (e ∷ es) = ap (λ (l : List IntentEntry). e ∷ l) (bare_entries es)
 
-pub bare_plain : (es : List Entry) → AllByRecursion IsPlainG (bare es)
+pub bare_plain : (es : List IntentEntry) → AllByRecursion IsPlainG (bare es)
 bare_plain [] = tt
 bare_plain (e ∷ es) = (λ removes. cc, bare_plain es)
 
 -- an intent that was read
-pub read_is : (bytes : List ℕ) (es : List Entry) (ms : List Member) → intent_of bytes ≡ Ok es → ms ≡ bare es → ms ≡ bare (well_formed (intent_of bytes))
-read_is bytes es ms is same = same ∙ ap (λ (r : Result (List Entry) ℕ). bare (well_formed r)) (sym is)
+pub read_is : (bytes : List ℕ) (es : List IntentEntry) (ms : List Member) → intent_of bytes ≡ Ok es → ms ≡ bare es → ms ≡ bare (well_formed (intent_of bytes))
+read_is bytes es ms is same = same ∙ ap (λ (r : Result (List IntentEntry) ℕ). bare (well_formed r)) (sym is)
 
-pub read_others : (bytes : List ℕ) (es : List Entry) (ms : List Member) → intent_of bytes ≡ Ok es → ms ≡ bare es → AreMembers ms
+pub read_others : (bytes : List ℕ) (es : List IntentEntry) (ms : List Member) → intent_of bytes ≡ Ok es → ms ≡ bare es → AreMembers ms
 read_others bytes es ms is same = subst AreMembers (sym same) (subst AreOthers (sym (bare_entries es)) (text_read bytes es is).others)
 
 too_long : (bytes : List ℕ) → file_limit < length bytes → intent_of bytes ≡ Err 1
@@ -73,7 +73,7 @@ bytes_fault o bytes fault.Failed whole_is reads = tt
 bytes_fault o bytes Memory whole_is reads = tt
 
 -- what was read has its form
-pub read_form : (bytes : List ℕ) (es : List Entry) → intent_of bytes ≡ Ok es → (line : ℕ) → intent_of bytes ≡ Err line → ⊥
+pub read_form : (bytes : List ℕ) (es : List IntentEntry) → intent_of bytes ≡ Ok es → (line : ℕ) → intent_of bytes ≡ Err line → ⊥
 read_form bytes es is line bad = cc
 
 pub bytes_form : (o : Option Content) (bytes : List ℕ) → AnswersWhole o (Ok bytes) → ((line : ℕ) → intent_of bytes ≡ Err line → ⊥) → IsWellFormed o

@@ -3,7 +3,7 @@ use Rattle.std.proofs.Common.{◌≡◌, ℕ, ◌<◌, ◌≤◌, true, false, L
 use Rattle.std.proofs.lemmas.List.{length-map}
 use Rattle.std.specs.List.{AllByRecursion}
 use Rattle.std.specs.Str.{bytes_eq}
-use Rattle.sccs_base.specs.Name.{IsSfile, p_file, q_file, x_file, z_file}
+use Rattle.sccs_base.specs.Name.{IsSFileName, p_file, q_file, x_file, z_file}
 use Rattle.sccs_base.proofs.SameBytes.{same_bytes}
 use Rattle.sccs_disk.specs.Files.{Content, Model, View, put, view_of}
 use Rattle.sccs_disk.specs.Images.{Allows}
@@ -14,12 +14,12 @@ use Rattle.sccs_name_files.specs.Touches.{Leaves, earlier, newest}
 use Rattle.sccs_name_files.proofs.Images.{view_image}
 use Rattle.sccs_name_files.proofs.Touched.{newest_more}
 use Rattle.sccs_intents.specs.Intents.{AreOthers, fate_in, has_name, intent_file, plan_file}
-use Rattle.sccs_intents.specs.declared.intents.Entry.{Entry}
+use Rattle.sccs_intents.specs.declared.intents.IntentEntry.{IntentEntry}
 use Rattle.sccs_intents.specs.declared.intents.Fate.{Fate}
 use Rattle.sccs_intents.proofs.IntentTexts.{thousand_short}
 use Rattle.sccs_pfile.specs.Recovered.{recovered_pfile}
 use Rattle.sccs_crash_points.specs.Calm.{IsCalm, KeepsPairs}
-use Rattle.sccs_crash_points.specs.Moments.{EndsAfter, EndsBefore, EndsWithin, IsAt, IsFrom, RecoversOn, Stays, Went}
+use Rattle.sccs_crash_points.specs.CrashPoints.{EndsAfter, EndsBefore, EndsWithin, IsAt, IsFrom, RecoversOn, Stays, Went}
 use Rattle.sccs_crash_points.specs.Recovery.{RecoversAs, fate_at, is_kept, pair_of, recover}
 use Rattle.sccs_crash_points.proofs.CalmDisks.{calm_firm, calm_unnamed}
 use Rattle.sccs_crash_points.proofs.FileNames.{from_sfile, kept_intent, kept_p, kept_q, kept_s, kept_x, kept_z, sfile_and_intent, siblings_differ, to_s, to_sfile, plan_and_sfile}
@@ -103,7 +103,7 @@ group_after ms a b d m past w is ends can same stops =
 planned_other : (ms : List Member) (v : View) (l : List ℕ) → bytes_eq plan_file l ≡ false → planned ms v l ≡ v l
 planned_other ms v l apart = put_other v plan_file l _ apart
 
-pub new_pair_is : (ms : List Member) (v : View) (mem : Member) → IsSfile mem.entry.name → fate_at (announced ms v) mem.entry.name ≡ Some mem.entry.fate → pair_of (recover mem.entry.name (announced ms v)) mem.entry.name ≡ new_pair_of mem v
+pub new_pair_is : (ms : List Member) (v : View) (mem : Member) → IsSFileName mem.entry.name → fate_at (announced ms v) mem.entry.name ≡ Some mem.entry.fate → pair_of (recover mem.entry.name (announced ms v)) mem.entry.name ≡ new_pair_of mem v
 new_pair_is ms v mem sfile named =
     let n = mem.entry.name in
     announced_pair (planned ms v) n mem.entry.fate sfile named
@@ -116,9 +116,9 @@ unnamed_fate (mem ∷ ms) n none =
 
 -- what the intent says of a name
 pub announced_fate : (ms : List Member) (v : View) (n : List ℕ) → IsWritten ms → fate_at (announced ms v) n ≡ fate_in (entries_of ms) n
-announced_fate ms v n written = ap (λ (es : List Entry). fate_in es n) (written_entries ms (planned ms v) written (put_same v plan_file _))
+announced_fate ms v n written = ap (λ (es : List IntentEntry). fate_in es n) (written_entries ms (planned ms v) written (put_same v plan_file _))
 
-announced_same : (ms : List Member) (v : View) (n : List ℕ) → IsSfile n → Same n v (announced ms v)
+announced_same : (ms : List Member) (v : View) (n : List ℕ) → IsSFileName n → Same n v (announced ms v)
 announced_same ms v n sfile = record {
   s = other_s (planned ms v) n sfile ∙ planned_other ms v n (plan_and_sfile n sfile);
   p = other_file (planned ms v) (p_file n) refl refl ∙ planned_other ms v (p_file n) refl;
@@ -128,12 +128,12 @@ announced_same ms v n sfile = record {
 }
 
 -- views with the same files of a name that no intent names
-pub unnamed_same : (n : List ℕ) (v w : View) → IsSfile n → fate_at v n ≡ None → fate_at w n ≡ None → Same n v w → pair_of (recover n w) n ≡ pair_of (recover n v) n
+pub unnamed_same : (n : List ℕ) (v w : View) → IsSFileName n → fate_at v n ≡ None → fate_at w n ≡ None → Same n v w → pair_of (recover n w) n ≡ pair_of (recover n v) n
 unnamed_same n v w sfile none none2 same =
     recovered_is n w sfile
     ∙ (recovered_alike n v w (record { fate = none2 ∙ sym none; s = same.s; p = same.p; z = ap is_some same.z; x = λ named. same.x; q = λ named. same.q }) ∙ sym (recovered_is n v sfile))
 
-pub other_pair_is : (ms : List Member) (v : View) (n : List ℕ) → IsWritten ms → IsSfile n → v intent_file ≡ None → has_name (entries_of ms) n ≡ false → pair_of (recover n (announced ms v)) n ≡ pair_of (recover n v) n
+pub other_pair_is : (ms : List Member) (v : View) (n : List ℕ) → IsWritten ms → IsSFileName n → v intent_file ≡ None → has_name (entries_of ms) n ≡ false → pair_of (recover n (announced ms v)) n ≡ pair_of (recover n v) n
 other_pair_is ms v n written sfile none other =
     unnamed_same n v (announced ms v) sfile (none_left v n none) (announced_fate ms v n written ∙ unnamed_fate ms n other) (announced_same ms v n sfile)
 
@@ -170,7 +170,7 @@ moved_other k f v l s p g z m =
     put_other (put (put (put (put v (l_file k) f.l) (z_file k) f.z) (drop 2 k) f.g) (p_file k) f.p) k l f.s s
     ∙ (put_other (put (put (put v (l_file k) f.l) (z_file k) f.z) (drop 2 k) f.g) (p_file k) l f.p p ∙ (put_other (put (put v (l_file k) f.l) (z_file k) f.z) (drop 2 k) l f.g g ∙ (put_other (put v (l_file k) f.l) (z_file k) l f.z z ∙ put_other v (l_file k) l f.l m)))
 
-pub moved_elsewhere : (k n : List ℕ) (f : Files) (v : View) → IsSfile k → IsSfile n → is_kept (drop 2 k) ≡ false → bytes_eq k n ≡ false → Same n v (moved v k (Some f))
+pub moved_elsewhere : (k n : List ℕ) (f : Files) (v : View) → IsSFileName k → IsSFileName n → is_kept (drop 2 k) ≡ false → bytes_eq k n ≡ false → Same n v (moved v k (Some f))
 moved_elsewhere k n f v own sfile plain apart = record {
   s = moved_other k f v n apart (from_sfile 112 k n sfile refl) (kept_s (drop 2 k) n plain sfile) (from_sfile 122 k n sfile refl) (from_sfile 108 k n sfile refl);
   p = moved_other k f v (p_file n) (to_sfile 112 k n own refl) (siblings_differ 112 k n own sfile apart) (kept_p (drop 2 k) n plain sfile) refl refl;
@@ -179,13 +179,13 @@ moved_elsewhere k n f v own sfile plain apart = record {
   q = moved_other k f v (q_file n) (to_sfile 113 k n own refl) refl (kept_q (drop 2 k) n plain sfile) refl refl;
 }
 
-pub moved_intent : (k : List ℕ) (f : Files) (v : View) → IsSfile k → is_kept (drop 2 k) ≡ false → moved v k (Some f) intent_file ≡ v intent_file
+pub moved_intent : (k : List ℕ) (f : Files) (v : View) → IsSFileName k → is_kept (drop 2 k) ≡ false → moved v k (Some f) intent_file ≡ v intent_file
 moved_intent k f v own plain = moved_other k f v intent_file (sfile_and_intent k own) refl (kept_intent (drop 2 k) plain) refl refl
 
 pub moved_s : (k : List ℕ) (f : Files) (v : View) → moved v k (Some f) k ≡ f.s
 moved_s k f v = put_same (put (put (put (put v (l_file k) f.l) (z_file k) f.z) (drop 2 k) f.g) (p_file k) f.p) k f.s
 
-pub moved_p : (k : List ℕ) (f : Files) (v : View) → IsSfile k → moved v k (Some f) (p_file k) ≡ f.p
+pub moved_p : (k : List ℕ) (f : Files) (v : View) → IsSFileName k → moved v k (Some f) (p_file k) ≡ f.p
 moved_p k f v own =
     put_other (put (put (put (put v (l_file k) f.l) (z_file k) f.z) (drop 2 k) f.g) (p_file k) f.p) k (p_file k) f.s (to_s 112 k own refl) ∙ put_same (put (put (put v (l_file k) f.l) (z_file k) f.z) (drop 2 k) f.g) (p_file k) f.p
 
@@ -197,11 +197,11 @@ same_then : (n : List ℕ) (u v w : View) → Same n u v → Same n v w → Same
 same_then n u v w first next = record { s = next.s ∙ first.s; p = next.p ∙ first.p; z = next.z ∙ first.z; x = next.x ∙ first.x; q = next.q ∙ first.q }
 
 -- an entry that isn't named is another
-other_entry : (e : Entry) (es : List Entry) (n : List ℕ) → fate_in (e ∷ es) n ≡ None → bytes_eq e.name n ≡ false
+other_entry : (e : IntentEntry) (es : List IntentEntry) (n : List ℕ) → fate_in (e ∷ es) n ≡ None → bytes_eq e.name n ≡ false
 other_entry e es n none =
     ⊎_elim (λ same. absurd (no_fate n e.fate (sym none ∙ fate_head e es n (subst (λ l. bytes_eq e.name l ≡ true) same (same_bytes e.name))))) (λ apart. apart) (name_cases e.name n)
 
-after_other : (v1 : View) (ds : List Change) (v : View) (n : List ℕ) → IsSfile n → fate_in (entries_of (members_in ds)) n ≡ None → AllByRecursion (IsPrepared v1) ds → Same n v (after_changes ds v)
+after_other : (v1 : View) (ds : List Change) (v : View) (n : List ℕ) → IsSFileName n → fate_in (entries_of (members_in ds)) n ≡ None → AllByRecursion (IsPrepared v1) ds → Same n v (after_changes ds v)
 after_other v1 [] v n sfile none all = record { s = refl; p = refl; z = refl; x = refl; q = refl }
 after_other v1 (d ∷ ds) v n sfile none all =
     let apart : bytes_eq d.member.entry.name n ≡ false = other_entry d.member.entry (entries_of (members_in ds)) n none in
@@ -217,7 +217,7 @@ record AtChange (v1 : View) (n : List ℕ) (fate : Fate) (w : View) : Type 0 whe
   pub s : w n ≡ change.files.s
   pub p : w (p_file n) ≡ change.files.p
 
-at_change : (v1 : View) (ds : List Change) (v : View) (n : List ℕ) (fate : Fate) → IsSfile n → AreOthers (entries_of (members_in ds)) → fate_in (entries_of (members_in ds)) n ≡ Some fate → AllByRecursion (IsPrepared v1) ds
+at_change : (v1 : View) (ds : List Change) (v : View) (n : List ℕ) (fate : Fate) → IsSFileName n → AreOthers (entries_of (members_in ds)) → fate_in (entries_of (members_in ds)) n ≡ Some fate → AllByRecursion (IsPrepared v1) ds
     → AtChange v1 n fate (after_changes ds v)
 at_change v1 [] v n fate sfile are is all = absurd (no_fate n fate is)
 at_change v1 (d ∷ ds) v n fate sfile are is all =
@@ -237,18 +237,18 @@ at_change v1 (d ∷ ds) v n fate sfile are is all =
     (name_cases d.member.entry.name n)
 
 -- the pair of a name after its step, and behind the intent
-own_after : (n : List ℕ) (w : View) (s p : Option Content) → IsSfile n → fate_at w n ≡ None → w n ≡ s → w (p_file n) ≡ p → recovered_pfile s p ≡ p → pair_of (recover n w) n ≡ pair s p
+own_after : (n : List ℕ) (w : View) (s p : Option Content) → IsSFileName n → fate_at w n ≡ None → w n ≡ s → w (p_file n) ≡ p → recovered_pfile s p ≡ p → pair_of (recover n w) n ≡ pair s p
 own_after n w s p sfile none is_s is_p settled =
     recovered_is n w sfile
     ∙ (recovered_under n w None none
     ∙ (recovered_same (w n) s (w (p_file n)) p (is_some (w (z_file n))) (is_some (w (z_file n))) is_s is_p refl ∙ sound_recovered s p (is_some (w (z_file n))) settled))
 
-own_intent : (ms : List Member) (v1 : View) (mem : Member) (n : List ℕ) (fate : Fate) → IsSfile n → mem.entry.name ≡ n → mem.entry.fate ≡ fate → fate_at (announced ms v1) n ≡ Some fate → pair_of (recover n (announced ms v1)) n ≡ new_pair_of mem v1
+own_intent : (ms : List Member) (v1 : View) (mem : Member) (n : List ℕ) (fate : Fate) → IsSFileName n → mem.entry.name ≡ n → mem.entry.fate ≡ fate → fate_at (announced ms v1) n ≡ Some fate → pair_of (recover n (announced ms v1)) n ≡ new_pair_of mem v1
 own_intent ms v1 mem n fate sfile name is named =
     subst (λ l. pair_of (recover l (announced ms v1)) l ≡ new_pair_of mem v1) name
-    (new_pair_is ms v1 mem (subst IsSfile (sym name) sfile) (subst (λ l. fate_at (announced ms v1) l ≡ Some mem.entry.fate) (sym name) (named ∙ ap (λ (f : Fate). Some f) (sym is))))
+    (new_pair_is ms v1 mem (subst IsSFileName (sym name) sfile) (subst (λ l. fate_at (announced ms v1) l ≡ Some mem.entry.fate) (sym name) (named ∙ ap (λ (f : Fate). Some f) (sym is))))
 
-by_fate : (ds : List Change) (v v1 : View) (n : List ℕ) (f : Option Fate) → IsWritten (members_in ds) → v intent_file ≡ None → v1 intent_file ≡ None → RecoversAs v v1 → AllByRecursion (IsPrepared v1) ds → IsSfile n
+by_fate : (ds : List Change) (v v1 : View) (n : List ℕ) (f : Option Fate) → IsWritten (members_in ds) → v intent_file ≡ None → v1 intent_file ≡ None → RecoversAs v v1 → AllByRecursion (IsPrepared v1) ds → IsSFileName n
     → fate_in (entries_of (members_in ds)) n ≡ f → pair_of (recover n (announced (members_in ds) v1)) n ≡ pair_of (recover n (after_changes ds v)) n
 by_fate ds v v1 n None written none none1 same all sfile is =
     unnamed_same n v1 (announced (members_in ds) v1) sfile (none_left v1 n none1) (announced_fate (members_in ds) v1 n written ∙ is) (announced_same (members_in ds) v1 n sfile)

@@ -2,7 +2,7 @@
 use Rattle.std.proofs.Common.{◌≡◌, ◌⊎◌, ℕ, Bool, true, false, cond, List, Option, None, Some, is_some, inl, inr, refl, sym, ap, subst, ◌∙◌, ⊎_elim}
 use Rattle.std.specs.Prelude.{IsSome}
 use Rattle.std.specs.Str.{bytes_eq}
-use Rattle.sccs_base.specs.Name.{IsSfile, p_file, q_file, x_file, z_file}
+use Rattle.sccs_base.specs.Name.{IsSFileName, p_file, q_file, x_file, z_file}
 use Rattle.sccs_disk.specs.Effects.{renamed}
 use Rattle.sccs_disk.specs.Files.{Content, View, put}
 use Rattle.sccs_disk.proofs.Puts.{name_cases, put_other, put_same}
@@ -53,8 +53,8 @@ same_pair k u w same = pair_same _ _ _ _ same.s same.p
 pub record IsHarmless (f : View → View) (v : View) : Type 0 where
   pub recovers : RecoversAs v (f v)
   pub intent : f v intent_file ≡ v intent_file
-  pub z : (k : List ℕ) → IsSfile k → IsSome (fate_at v k) → f v (z_file k) ≡ v (z_file k)
-  pub pairs : (k : List ℕ) → IsSfile k → (pair_of (f v) k ≡ pair_of v k) ⊎ IsSome (fate_at v k)
+  pub z : (k : List ℕ) → IsSFileName k → IsSome (fate_at v k) → f v (z_file k) ≡ v (z_file k)
+  pub pairs : (k : List ℕ) → IsSFileName k → (pair_of (f v) k ≡ pair_of v k) ⊎ IsSome (fate_at v k)
 
 -- What is to be known of a change of the files of one name.
 pub record OneName (n : List ℕ) (f : View → View) (u : View) : Type 0 where
@@ -62,7 +62,7 @@ pub record OneName (n : List ℕ) (f : View → View) (u : View) : Type 0 where
   pub own : recovered_at (f u) n ≡ recovered_at u n
   pub own_z : IsSome (fate_at u n) → f u (z_file n) ≡ u (z_file n)
   pub own_pair : (pair_of (f u) n ≡ pair_of u n) ⊎ IsSome (fate_at u n)
-  pub others : (k : List ℕ) → IsSfile k → bytes_eq n k ≡ false → Same k u (f u)
+  pub others : (k : List ℕ) → IsSFileName k → bytes_eq n k ≡ false → Same k u (f u)
 
 pub one_harmless : (n : List ℕ) (f : View → View) (u : View) → OneName n f u → IsHarmless f u
 one_harmless n f u one = record {
@@ -86,7 +86,7 @@ newer_there (Some c) s there = refl
 pub fated_same : (fate : Fate) (q q2 p p2 : Option Content) → q2 ≡ q → p2 ≡ p → fated fate q2 p2 ≡ fated fate q p
 fated_same fate q q2 p p2 e f = ap (λ (o : Option Content). fated fate o p2) e ∙ ap (λ (o : Option Content). fated fate q o) f
 
-pub x_harmless : (n : List ℕ) (fate : Fate) (u : View) → IsSfile n → fate_at u n ≡ Some fate → IsSome (u (x_file n)) → IsHarmless (renamed (x_file n) n) u
+pub x_harmless : (n : List ℕ) (fate : Fate) (u : View) → IsSFileName n → fate_at u n ≡ Some fate → IsSome (u (x_file n)) → IsHarmless (renamed (x_file n) n) u
 x_harmless n fate u sfile named there = one_harmless n (renamed (x_file n) n) u (record {
   intent = intent;
   own =
@@ -117,7 +117,7 @@ x_harmless n fate u sfile named there = one_harmless n (renamed (x_file n) n) u 
 
 -- ---- q over the p-file
 
-pub q_harmless : (n : List ℕ) (u : View) → IsSfile n → fate_at u n ≡ Some Replaced → IsSome (u (q_file n)) → IsHarmless (renamed (q_file n) (p_file n)) u
+pub q_harmless : (n : List ℕ) (u : View) → IsSFileName n → fate_at u n ≡ Some Replaced → IsSome (u (q_file n)) → IsHarmless (renamed (q_file n) (p_file n)) u
 q_harmless n u sfile named there = one_harmless n (renamed (q_file n) (p_file n)) u (record {
   intent = other intent_file refl refl;
   own =
@@ -145,7 +145,7 @@ q_harmless n u sfile named there = one_harmless n (renamed (q_file n) (p_file n)
 
 -- ---- the p-file goes
 
-pub p_harmless : (n : List ℕ) (u : View) → IsSfile n → fate_at u n ≡ Some Removed → IsHarmless (without_name (p_file n)) u
+pub p_harmless : (n : List ℕ) (u : View) → IsSFileName n → fate_at u n ≡ Some Removed → IsHarmless (without_name (p_file n)) u
 p_harmless n u sfile named = one_harmless n (without_name (p_file n)) u (record {
   intent = other intent_file refl;
   own =
@@ -172,7 +172,7 @@ p_harmless n u sfile named = one_harmless n (without_name (p_file n)) u (record 
 
 -- ---- a file goes at which recovery doesn't look
 
-pub kept_same : (g k : List ℕ) (u : View) → is_kept g ≡ false → IsSfile k → Same k u (without_name g u)
+pub kept_same : (g k : List ℕ) (u : View) → is_kept g ≡ false → IsSFileName k → Same k u (without_name g u)
 kept_same g k u plain sfile = record {
   s = put_other u g k None (kept_s g k plain sfile);
   p = put_other u g (p_file k) None (kept_p g k plain sfile);
@@ -194,7 +194,7 @@ other_harmless g u plain = record {
 
 -- ---- the z-file of a sound name goes
 
-pub z_harmless : (n : List ℕ) (u : View) → IsSfile n → IsSound n u → IsHarmless (without_name (z_file n)) u
+pub z_harmless : (n : List ℕ) (u : View) → IsSFileName n → IsSound n u → IsHarmless (without_name (z_file n)) u
 z_harmless n u sfile sound = one_harmless n (without_name (z_file n)) u (record {
   intent = other intent_file refl;
   own = sound_at n (without_name (z_file n) u) (sound_kept n u (without_name (z_file n) u) sound (other intent_file refl) pair) ∙ (pair ∙ sym (sound_at n u sound));

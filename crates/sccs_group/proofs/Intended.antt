@@ -7,7 +7,7 @@ use Rattle.sccs_disk.specs.Effects.{syncing_names}
 use Rattle.sccs_disk.specs.Files.{Content, Remove, View}
 use Rattle.sccs_disk.specs.Told.{Told, seen}
 use Rattle.sccs_intents.specs.Intents.{AreOthers, entries_in, intent_file, intent_of, plan_file, well_formed}
-use Rattle.sccs_intents.specs.declared.intents.Entry.{Entry}
+use Rattle.sccs_intents.specs.declared.intents.IntentEntry.{IntentEntry}
 use Rattle.sccs_intents.proofs.IntentTexts.{text_read}
 use Rattle.sccs_crash_points.specs.Recovery.{without_name}
 use Rattle.sccs_crash_points.specs.Unlocked.{KeepsOthers}
@@ -39,7 +39,7 @@ pub of_intended : (o : Option View) (ms : List Member) (P : List Member → Type
 of_intended o ms P reads holds = told_as o (λ (v : View). ReadsMembers (v intent_file) (Ok (Some ms))) (λ (v : View). P (intended v)) (λ v is. subst P (reads_intended (v intent_file) ms is) holds) reads
 
 -- they are members, and their g-files stay
-entries_others : (bytes : List ℕ) (r : Result (List Entry) ℕ) → intent_of bytes ≡ r → AreOthers (well_formed r)
+entries_others : (bytes : List ℕ) (r : Result (List IntentEntry) ℕ) → intent_of bytes ≡ r → AreOthers (well_formed r)
 entries_others bytes (Ok es) is = (text_read bytes es is).others
 entries_others bytes (Err line) is = tt
 

@@ -2,7 +2,7 @@
 use Rattle.std.proofs.Common.{◌≡◌, ℕ, zero, suc, ◌+◌, ◌<◌, ◌≤◌, List, [], ◌∷◌, drop, length, get_or, Option, None, Some, refl, sym, ap, subst, ◌∙◌}
 use Rattle.std.proofs.lemmas.List.{drop_all, drop_more}
 use Rattle.std.specs.List.{AllByRecursion}
-use Rattle.sccs_base.specs.Name.{IsSfile, p_file, z_file}
+use Rattle.sccs_base.specs.Name.{IsSFileName, p_file, z_file}
 use Rattle.sccs_disk.specs.Files.{Remove, View}
 use Rattle.sccs_disk.specs.Told.{Told, seen}
 use Rattle.sccs_disk.proofs.Puts.{put_other}
@@ -28,14 +28,14 @@ members_from [] (suc i) are = are
 members_from (mem ∷ ms) zero are = are
 members_from (mem ∷ ms) (suc i) are = members_from ms i are.1
 
-pub member_sfile : (ms rest : List Member) (i : ℕ) (mem : Member) → AreMembers ms → drop i ms ≡ mem ∷ rest → IsSfile mem.entry.name
+pub member_sfile : (ms rest : List Member) (i : ℕ) (mem : Member) → AreMembers ms → drop i ms ≡ mem ∷ rest → IsSFileName mem.entry.name
 member_sfile ms rest i mem are is = (subst AreMembers is (members_from ms i are)).0.sfile
 
 rest_members : (ms rest : List Member) (i : ℕ) (mem : Member) → AreMembers ms → drop i ms ≡ mem ∷ rest → AreMembers rest
 rest_members ms rest i mem are is = (subst AreMembers is (members_from ms i are)).1
 
 -- what is so of each name is so in another view
-pub all_kept : (Q : View → Member → Type 0) (v w : View) (ms : List Member) → AreMembers ms → ((k : Member) → IsSfile k.entry.name → Q v k → Q w k) → AllByRecursion (Q v) ms → AllByRecursion (Q w) ms
+pub all_kept : (Q : View → Member → Type 0) (v w : View) (ms : List Member) → AreMembers ms → ((k : Member) → IsSFileName k.entry.name → Q v k → Q w k) → AllByRecursion (Q v) ms → AllByRecursion (Q w) ms
 all_kept Q v w [] are kept all = tt
 all_kept Q v w (k ∷ ms) are kept all = (kept k are.0.sfile all.0, all_kept Q v w ms are.1 kept all.1)
 
@@ -49,7 +49,7 @@ pub view_on : (f : Member → View → View) (ms rest : List Member) (i : ℕ) (
 view_on f ms rest i mem a b Z is first all = λ o next. all o (subst (λ (l : List Member). Becomes (each_by f l) a o) (sym is) (view_turn f mem rest a b o first next))
 
 -- a call for a member, and those of the rest
-turn : (Q : View → Member → Type 0) (f : Member → View → View) (mem : Member) (rest : List Member) (a b c : Told) → AreMembers rest → ((v : View) → Q v mem → (k : Member) → IsSfile k.entry.name → Q v k → Q (f mem v) k)
+turn : (Q : View → Member → Type 0) (f : Member → View → View) (mem : Member) (rest : List Member) (a b c : Told) → AreMembers rest → ((v : View) → Q v mem → (k : Member) → IsSFileName k.entry.name → Q v k → Q (f mem v) k)
     → Becomes (f mem) (seen a) (seen b) → FinishesBy (λ v. Q v mem) a b → FinishesBy (λ v. AllByRecursion (Q v) rest) b c → FinishesBy (λ v. AllByRecursion (Q v) (mem ∷ rest)) a c
 turn Q f mem rest a b c are keeps becomes first next =
     by_then (λ v. AllByRecursion (Q v) (mem ∷ rest)) (λ v. AllByRecursion (Q v) rest) (f mem) a b c becomes
@@ -60,7 +60,7 @@ cut Q mem rest a b first = by_weaker (λ v. Q v mem) (λ v. AllByRecursion (Q v)
 
 -- ---- new files in their places
 
-named_on : (mem : Member) (v : View) → IsSfile mem.entry.name → IsNamed v mem → (k : Member) → IsSfile k.entry.name → IsNamed v k → IsNamed (placed mem v) k
+named_on : (mem : Member) (v : View) → IsSFileName mem.entry.name → IsNamed v mem → (k : Member) → IsSFileName k.entry.name → IsNamed v k → IsNamed (placed mem v) k
 named_on mem v own named k sfile is = named_kept k v (placed mem v) (placed_intent mem v own named.plain) is
 
 pub placed_on : (ms rest : List Member) (i : ℕ) (mem : Member) (start a b : Told) → AreMembers ms → drop i ms ≡ mem ∷ rest → Becomes (placed mem) (seen a) (seen b) → FinishesBy (λ v. IsNamed v mem) a b
@@ -81,7 +81,7 @@ placed_all ms i start a all = all a (by_same (AreNamed (drop i ms)) a a refl)
 abbrev IsUnlocked : View → Member → Type 0
 IsUnlocked v mem = IsSound mem.entry.name v
 
-sound_on : (mem : Member) (v : View) (k : Member) → IsSfile k.entry.name → IsSound k.entry.name v → IsSound k.entry.name (unlocked mem v)
+sound_on : (mem : Member) (v : View) (k : Member) → IsSFileName k.entry.name → IsSound k.entry.name v → IsSound k.entry.name (unlocked mem v)
 sound_on mem v k sfile sound =
     sound_kept k.entry.name v (unlocked mem v) sound (put_other v (z_file mem.entry.name) intent_file None refl)
     (pair_same _ _ _ _ (put_other v (z_file mem.entry.name) k.entry.name None (from_sfile 122 mem.entry.name k.entry.name sfile refl)) (put_other v (z_file mem.entry.name) (p_file k.entry.name) None refl))

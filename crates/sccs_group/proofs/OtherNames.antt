@@ -2,7 +2,7 @@
 use Rattle.std.proofs.Common.{◌≡◌, ◌⊎◌, ◌||◌, ◌&&◌, ℕ, Bool, true, false, List, [], ◌∷◌, drop, None, IfSome, inl, inr, refl, subst, ⊎_elim}
 use Rattle.std.specs.List.{AllByRecursion}
 use Rattle.std.specs.Str.{bytes_eq}
-use Rattle.sccs_base.specs.Name.{IsSfile, p_file, z_file}
+use Rattle.sccs_base.specs.Name.{IsSFileName, p_file, z_file}
 use Rattle.sccs_disk.specs.Files.{Model, View, view_of}
 use Rattle.sccs_disk.specs.Told.{Told, Tells, seen}
 use Rattle.sccs_disk.proofs.Puts.{name_cases}
@@ -33,22 +33,22 @@ member_misses mem k g s p left =
     or_from (mem.removes_g && bytes_eq (drop 2 mem.entry.name) k) (is_own_but_g mem.entry.name k) (no_g_of mem k g)
     (or_from (bytes_eq mem.entry.name k) (bytes_eq (p_file mem.entry.name) k || is_left mem.entry.name k) s (or_from (bytes_eq (p_file mem.entry.name) k) (is_left mem.entry.name k) p left))
 
-member_s : (mem : Member) (n : List ℕ) → IsSfile mem.entry.name → IsPlainG mem → IsSfile n → bytes_eq mem.entry.name n ≡ false → is_own_of_member mem n ≡ false
+member_s : (mem : Member) (n : List ℕ) → IsSFileName mem.entry.name → IsPlainG mem → IsSFileName n → bytes_eq mem.entry.name n ≡ false → is_own_of_member mem n ≡ false
 member_s mem n own plain sfile apart =
     member_misses mem n (λ removes. kept_s (drop 2 mem.entry.name) n (plain removes) sfile) apart (from_sfile 112 mem.entry.name n sfile refl) (left_s mem.entry.name n sfile)
 
-member_p : (mem : Member) (n : List ℕ) → IsSfile mem.entry.name → IsPlainG mem → IsSfile n → bytes_eq mem.entry.name n ≡ false → is_own_of_member mem (p_file n) ≡ false
+member_p : (mem : Member) (n : List ℕ) → IsSFileName mem.entry.name → IsPlainG mem → IsSFileName n → bytes_eq mem.entry.name n ≡ false → is_own_of_member mem (p_file n) ≡ false
 member_p mem n own plain sfile apart =
     member_misses mem (p_file n) (λ removes. kept_p (drop 2 mem.entry.name) n (plain removes) sfile) (to_sfile 112 mem.entry.name n own refl) (siblings_differ 112 mem.entry.name n own sfile apart) refl
 
-member_z : (mem : Member) (n : List ℕ) → IsSfile mem.entry.name → IsPlainG mem → IsSfile n → bytes_eq mem.entry.name n ≡ false → is_own_of_member mem (z_file n) ≡ false
+member_z : (mem : Member) (n : List ℕ) → IsSFileName mem.entry.name → IsPlainG mem → IsSFileName n → bytes_eq mem.entry.name n ≡ false → is_own_of_member mem (z_file n) ≡ false
 member_z mem n own plain sfile apart =
     member_misses mem (z_file n) (λ removes. kept_z (drop 2 mem.entry.name) n (plain removes) sfile) (to_sfile 122 mem.entry.name n own refl) refl (left_z mem.entry.name n own sfile apart)
 
 -- ---- all members
 
 all_miss : (ms : List Member) (n k : List ℕ) → AreMembers ms → AllByRecursion IsPlainG ms → has_name (entries_of ms) n ≡ false
-    → ((mem : Member) → IsSfile mem.entry.name → IsPlainG mem → bytes_eq mem.entry.name n ≡ false → is_own_of_member mem k ≡ false) → is_own_of ms k ≡ false
+    → ((mem : Member) → IsSFileName mem.entry.name → IsPlainG mem → bytes_eq mem.entry.name n ≡ false → is_own_of_member mem k ≡ false) → is_own_of ms k ≡ false
 all_miss [] n k are plain none each = refl
 all_miss (mem ∷ ms) n k are plain none each =
     or_from (is_own_of_member mem k) (is_own_of ms k) (each mem are.0.sfile plain.0 (left_false (bytes_eq mem.entry.name n) (has_name (entries_of ms) n) none))
@@ -57,7 +57,7 @@ all_miss (mem ∷ ms) n k are plain none each =
 group_misses : (ms : List Member) (k : List ℕ) → bytes_eq plan_file k ≡ false → bytes_eq intent_file k ≡ false → is_own_of ms k ≡ false → is_own_of_group ms k ≡ false
 group_misses ms k plan intent own = or_from (bytes_eq plan_file k) (bytes_eq intent_file k || is_own_of ms k) plan (or_from (bytes_eq intent_file k) (is_own_of ms k) intent own)
 
-pub others_left : (ms : List Member) (n : List ℕ) → AreMembers ms → AllByRecursion IsPlainG ms → IsSfile n → has_name (entries_of ms) n ≡ false
+pub others_left : (ms : List Member) (n : List ℕ) → AreMembers ms → AllByRecursion IsPlainG ms → IsSFileName n → has_name (entries_of ms) n ≡ false
     → (is_own_of_group ms n ≡ false) × (is_own_of_group ms (p_file n) ≡ false) × (is_own_of_group ms (z_file n) ≡ false)
 others_left ms n are plain sfile none = (
   group_misses ms n (plan_and_sfile n sfile) (intent_and_sfile n sfile) (all_miss ms n n are plain none (λ mem own is apart. member_s mem n own is sfile apart)),

@@ -1,7 +1,7 @@
 -- The new files of members put in their places.
 use Rattle.std.proofs.Common.{◌≡◌, ℕ, Bool, true, false, cond, List, drop, None, Some, is_some, refl, ◌∙◌}
 use Rattle.std.specs.Str.{bytes_eq}
-use Rattle.sccs_base.specs.Name.{IsSfile, p_file, q_file, x_file, y_file}
+use Rattle.sccs_base.specs.Name.{IsSFileName, p_file, q_file, x_file, y_file}
 use Rattle.sccs_disk.specs.Effects.{renamed}
 use Rattle.sccs_disk.specs.Files.{Remove, Rename, View}
 use Rattle.sccs_disk.specs.Told.{Told, seen}
@@ -29,7 +29,7 @@ taken_by from to v l false a b = refl
 pub taken_other : (from to : List ℕ) (v : View) (l : List ℕ) → bytes_eq from l ≡ false → bytes_eq to l ≡ false → taken from to v l ≡ v l
 taken_other from to v l a b = taken_by from to v l (is_some (v from)) a b
 
-pub s_intent : (n : List ℕ) (v : View) → IsSfile n → taken (x_file n) n v intent_file ≡ v intent_file
+pub s_intent : (n : List ℕ) (v : View) → IsSFileName n → taken (x_file n) n v intent_file ≡ v intent_file
 s_intent n v sfile = taken_other (x_file n) n v intent_file refl (sfile_and_intent n sfile)
 
 pub p_intent : (fate : Fate) (n : List ℕ) (v : View) → p_taken fate n v intent_file ≡ v intent_file
@@ -43,7 +43,7 @@ g_intent : (removes : Bool) (n : List ℕ) (v : View) → (removes ≡ true → 
 g_intent true n v plain = put_other v (drop 2 n) intent_file None (kept_intent (drop 2 n) (plain refl))
 g_intent false n v plain = refl
 
-pub placed_intent : (mem : Member) (v : View) → IsSfile mem.entry.name → IsPlainG mem → placed mem v intent_file ≡ v intent_file
+pub placed_intent : (mem : Member) (v : View) → IsSFileName mem.entry.name → IsPlainG mem → placed mem v intent_file ≡ v intent_file
 placed_intent mem v sfile plain =
     g_intent mem.removes_g mem.entry.name (without_name (y_file mem.entry.name) (p_taken mem.entry.fate mem.entry.name (taken (x_file mem.entry.name) mem.entry.name v))) plain
     ∙ (y_intent mem.entry.name (p_taken mem.entry.fate mem.entry.name (taken (x_file mem.entry.name) mem.entry.name v))
@@ -60,7 +60,7 @@ pub named_then : (mem : Member) (f : View → View) (a b c : Told) → ((v : Vie
 named_then mem f a b c keeps becomes first next =
     by_then (λ v. IsNamed v mem) (λ v. IsNamed v mem) f a b c becomes (λ v named. named_kept mem v (f v) (keeps v) named) first next
 
-pub s_named : (mem : Member) (a b : Told) → IsSfile mem.entry.name → MayCall (Rename (x_file mem.entry.name) mem.entry.name) (x_file mem.entry.name) a b → FinishesBy (λ v. IsNamed v mem) a b
+pub s_named : (mem : Member) (a b : Told) → IsSFileName mem.entry.name → MayCall (Rename (x_file mem.entry.name) mem.entry.name) (x_file mem.entry.name) a b → FinishesBy (λ v. IsNamed v mem) a b
 s_named mem a b sfile call =
     by_weaker (λ v. fate_at v mem.entry.name ≡ Some mem.entry.fate) (λ v. IsNamed v mem) a b (λ v named. named.fate) (x_story mem.entry.name mem.entry.fate a b sfile call)
 
@@ -71,7 +71,7 @@ pub y_named : (mem : Member) (a b : Told) → MayCall (Remove (y_file mem.entry.
 y_named mem a b call = other_story (y_file mem.entry.name) (λ v. IsNamed v mem) a b refl call
 
 -- up to each of the calls
-pub two_named : (mem : Member) (a b c : Told) → IsSfile mem.entry.name → Becomes (taken (x_file mem.entry.name) mem.entry.name) (seen a) (seen b)
+pub two_named : (mem : Member) (a b c : Told) → IsSFileName mem.entry.name → Becomes (taken (x_file mem.entry.name) mem.entry.name) (seen a) (seen b)
     → MayCall (Rename (x_file mem.entry.name) mem.entry.name) (x_file mem.entry.name) a b → FinishesBy (λ v. IsNamed v mem) b c → FinishesBy (λ v. IsNamed v mem) a c
 two_named mem a b c sfile becomes call rest =
     named_then mem (taken (x_file mem.entry.name) mem.entry.name) a b c (λ v. s_intent mem.entry.name v sfile) becomes (s_named mem a b sfile call) rest

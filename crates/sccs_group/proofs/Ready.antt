@@ -3,7 +3,7 @@ use Rattle.std.proofs.Common.{◌≡◌, ◌⊎◌, ◌++◌, ℕ, Bool, true, f
 use Rattle.std.proofs.lemmas.List.{take-append-drop}
 use Rattle.std.specs.List.{AllByRecursion}
 use Rattle.std.specs.Str.{bytes_eq}
-use Rattle.sccs_base.specs.Name.{IsSfile, p_file, q_file, x_file, y_file, z_file}
+use Rattle.sccs_base.specs.Name.{IsSFileName, p_file, q_file, x_file, y_file, z_file}
 use Rattle.sccs_base.proofs.SameBytes.{bytes_eq_sym, other_bytes, same_bytes}
 use Rattle.sccs_disk.specs.Effects.{renamed}
 use Rattle.sccs_disk.specs.Files.{Content, View, put}
@@ -95,7 +95,7 @@ swapped_puts false b s p x apart = refl
 not_both : (b : Bool) → b ≡ true → b ≡ false → ⊥
 not_both b is other = cc
 
-s_or_p : (n k : List ℕ) → IsSfile n → NotBoth (bytes_eq n k) (bytes_eq (p_file n) k)
+s_or_p : (n k : List ℕ) → IsSFileName n → NotBoth (bytes_eq n k) (bytes_eq (p_file n) k)
 s_or_p n k sfile s p = not_both (bytes_eq n (p_file n)) (subst (λ (l : List ℕ). bytes_eq n l ≡ true) (sym (same_name (p_file n) k p)) s) (to_s 112 n sfile refl)
 
 -- where it isn't the g-file
@@ -103,7 +103,7 @@ elsewhere : (removes : Bool) (n : List ℕ) (v : View) (k : List ℕ) → bytes_
 elsewhere true n v k off = put_other v (drop 2 n) k None off
 elsewhere false n v k off = refl
 
-moved_is : (n : List ℕ) (f : Files) (u : View) (k : List ℕ) → IsSfile n → bytes_eq (drop 2 n) k ≡ false → bytes_eq (z_file n) k ≡ false → put u (l_file n) f.l k ≡ u k
+moved_is : (n : List ℕ) (f : Files) (u : View) (k : List ℕ) → IsSFileName n → bytes_eq (drop 2 n) k ≡ false → bytes_eq (z_file n) k ≡ false → put u (l_file n) f.l k ≡ u k
     → put (put u n f.s) (p_file n) f.p k ≡ moved u n (Some f) k
 moved_is n f u k sfile g z same =
     swapped_puts (bytes_eq n k) (bytes_eq (p_file n) k) f.s f.p (u k) (s_or_p n k sfile)
@@ -125,13 +125,13 @@ g_there : (removes : Bool) (n : List ℕ) (v v3 : View) → v3 (drop 2 n) ≡ v 
 g_there true n v v3 same = put_same v3 (drop 2 n) None
 g_there false n v v3 same = same
 
-moved_g : (n : List ℕ) (f : Files) (u : View) → IsSfile n → moved u n (Some f) (drop 2 n) ≡ f.g
+moved_g : (n : List ℕ) (f : Files) (u : View) → IsSFileName n → moved u n (Some f) (drop 2 n) ≡ f.g
 moved_g n f u sfile =
     put_other (put (put (put (put u (l_file n) f.l) (z_file n) f.z) (drop 2 n) f.g) (p_file n) f.p) n (drop 2 n) f.s (s_and_g n sfile)
     ∙ (put_other (put (put (put u (l_file n) f.l) (z_file n) f.z) (drop 2 n) f.g) (p_file n) (drop 2 n) f.p (from_g 112 n sfile) ∙ put_same (put (put u (l_file n) f.l) (z_file n) f.z) (drop 2 n) f.g)
 
 -- the calls before it leave it
-three_left : (mem : Member) (v : View) → IsSfile mem.entry.name → part_placed 3 mem v (drop 2 mem.entry.name) ≡ v (drop 2 mem.entry.name)
+three_left : (mem : Member) (v : View) → IsSFileName mem.entry.name → part_placed 3 mem v (drop 2 mem.entry.name) ≡ v (drop 2 mem.entry.name)
 three_left mem v sfile =
     let n = mem.entry.name in
     put_other (part_placed 2 mem v) (y_file n) (drop 2 n) None (from_g 121 n sfile)
@@ -153,7 +153,7 @@ all_ready w d v u ready stays same = λ k h. by k h (name_cases (drop 2 d.member
 
 -- ---- another member
 
-g_files_differ : (n k : List ℕ) → IsSfile n → IsSfile k → bytes_eq n k ≡ false → bytes_eq (drop 2 n) (drop 2 k) ≡ false
+g_files_differ : (n k : List ℕ) → IsSFileName n → IsSFileName k → bytes_eq n k ≡ false → bytes_eq (drop 2 n) (drop 2 k) ≡ false
 g_files_differ n k sfile other apart =
     other_bytes (drop 2 n) (drop 2 k)
     (λ e. let same : n ≡ k = sym (take-append-drop 2 n) ∙ (ap (λ (l : List ℕ). l ++ drop 2 n) (sfile.front ∙ sym other.front) ∙ (ap (λ (l : List ℕ). take 2 k ++ l) e ∙ take-append-drop 2 k)) in

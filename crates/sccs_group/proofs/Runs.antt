@@ -6,7 +6,7 @@ use Rattle.sccs_disk.specs.Told.{Told, Tells, seen}
 use Rattle.sccs_name_files.specs.Touches.{Each, earlier, newest}
 use Rattle.sccs_name_files.proofs.Touched.{earlier_more, each_newest, newest_more}
 use Rattle.sccs_crash_points.specs.Calm.{IsCalm}
-use Rattle.sccs_crash_points.specs.Moments.{Guards, IsFrom}
+use Rattle.sccs_crash_points.specs.CrashPoints.{Guards, IsFrom}
 use Rattle.sccs_crash_points.specs.Recovery.{RecoversAs}
 use Rattle.sccs_crash_points.proofs.Joined.{guarded_joined}
 use Rattle.sccs_crash_points.proofs.Recovering.{recovers_itself, recovers_then}
@@ -33,7 +33,7 @@ follows_then m m1 m2 first next = record {
   held = λ n sfile all. next.held n sfile (first.held n sfile all);
 }
 
--- ---- moments, one behind another
+-- ---- crash points, one behind another
 
 pub each_follows : (m m1 : Model) (later added : List Model) → newest added m ≡ m1 → Follows m m1 → Each (Follows m1) later m1 → Each (Follows m) added m → Each (Follows m) (later ++ added) m
 each_follows m m1 [] added is to later before = before

@@ -1,6 +1,6 @@
 -- The views after the steps of the members of a group, one after the other.
 use Rattle.std.specs.Prelude.{◌≡◌, ℕ, Bool, false, List, [], ◌∷◌, drop, map, Option, None, Some, if◌then◌else◌}
-use Rattle.sccs_base.specs.Name.{IsSfile}
+use Rattle.sccs_base.specs.Name.{IsSFileName}
 use Rattle.sccs_disk.specs.Files.{Content, View}
 use Rattle.sccs_name_files.specs.StepFiles.{Files, is_left, l_file, moved}
 use Rattle.sccs_pfile.specs.Recovered.{recovered_pfile}
@@ -27,7 +27,7 @@ new_g_of mem v = if mem.removes_g then None else v (drop 2 mem.entry.name)
 
 -- The new s-file and p-file are those that are prepared in a view, and recovery leaves them; the g-file is none at which it looks.
 pub record IsPrepared (v : View) (d : Change) : Type 0 where
-  pub sfile : IsSfile d.member.entry.name
+  pub sfile : IsSFileName d.member.entry.name
   pub plain : is_kept (drop 2 d.member.entry.name) ≡ false
   pub pair : new_pair_of d.member v ≡ record { s = d.files.s; p = d.files.p }
   pub settled : recovered_pfile d.files.s d.files.p ≡ d.files.p

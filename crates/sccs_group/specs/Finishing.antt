@@ -1,14 +1,14 @@
 -- What finishing a group says that was stopped anywhere behind its intent.
 use Rattle.std.specs.Prelude.{◌≡◌, ◌⊎◌, ℕ, List, ◌∷◌, None, Some, IsSome}
 use Rattle.std.specs.List.{AllByRecursion}
-use Rattle.sccs_base.specs.Name.{IsSfile, p_file, q_file, x_file}
+use Rattle.sccs_base.specs.Name.{IsSFileName, p_file, q_file, x_file}
 use Rattle.sccs_disk.specs.Effects.{pended}
 use Rattle.sccs_disk.specs.Files.{Model, Op, View, view_of}
 use Rattle.sccs_disk.specs.Images.{Allows, Full, Image}
 use Rattle.sccs_disk.specs.Told.{Told, Tells}
 use Rattle.sccs_name_files.specs.Touches.{Each, earlier, newest}
 use Rattle.sccs_crash_points.specs.Calm.{HasFirm, IsCalm}
-use Rattle.sccs_crash_points.specs.Moments.{Guarded, IsFrom}
+use Rattle.sccs_crash_points.specs.CrashPoints.{Guarded, IsFrom}
 use Rattle.sccs_intents.specs.declared.intents.Fate.{Fate}
 use Rattle.sccs_intents.specs.declared.intents.Fate.TheVariants.{Replaced, Removed}
 use Rattle.sccs_crash_points.specs.Recovery.{IsSettledPair, IsSound, RecoversAs, fate_at, pair_of, recover, IsHeldAt}
@@ -17,11 +17,11 @@ use Rattle.sccs_group.specs.declared.members.Member.{Member}
 
 -- so it is of each name
 abbrev pub IsHeld : View → Type 0
-IsHeld v = (n : List ℕ) → IsSfile n → IsHeldAt n v
+IsHeld v = (n : List ℕ) → IsSFileName n → IsHeldAt n v
 
 -- recovery leaves the new pair of each name of the intent as it is
 abbrev pub IsSettled : View → Type 0
-IsSettled v = (n : List ℕ) → IsSfile n → IsSome (fate_at v n) → IsSettledPair (pair_of (recover n v) n)
+IsSettled v = (n : List ℕ) → IsSFileName n → IsSome (fate_at v n) → IsSettledPair (pair_of (recover n v) n)
 
 -- What finishing needs of the files of a disk that tells its model.
 pub record CanFinish (m : Model) : Type 0 where
@@ -34,7 +34,7 @@ pub record Follows (m m2 : Model) : Type 0 where
   pub images : Allows (IsFrom m) m2
   pub fulls : (w : View) → Full m2 w → (u : View) × Full m u × RecoversAs u w
   -- the z-file of a name of an intent stays there in whatever a stop leaves
-  pub held : (n : List ℕ) → IsSfile n → Allows (IsHeldAt n) m → Allows (IsHeldAt n) m2
+  pub held : (n : List ℕ) → IsSFileName n → Allows (IsHeldAt n) m → Allows (IsHeldAt n) m2
 
 -- The story went on from a model, each moment follows it, and it may be finished still.
 pub record Finishes (m : Model) (past : List Model) (new : Told) : Type 0 where
@@ -70,7 +70,7 @@ TakenBy Removed n v = (v (x_file n) ≡ None) × (v (p_file n) ≡ None)
 
 -- so it is of each name of the intent: the new files are in their places
 abbrev pub IsTaken : View → Type 0
-IsTaken v = (n : List ℕ) → IsSfile n → (fate : Fate) → fate_at v n ≡ Some fate → TakenBy fate n v
+IsTaken v = (n : List ℕ) → IsSFileName n → (fate : Fate) → fate_at v n ≡ Some fate → TakenBy fate n v
 
 -- the intent is gone, and recovery leaves the pair of each member as it is
 abbrev pub AreUnlocked : List Member → View → Type 0

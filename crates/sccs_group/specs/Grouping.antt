@@ -12,7 +12,7 @@ use Rattle.sccs_intents.specs.Written.{intent_text}
 use Rattle.sccs_intents.specs.declared.intents.Fate.{Fate}
 use Rattle.sccs_intents.specs.declared.intents.Fate.TheVariants.{Replaced, Removed}
 use Rattle.sccs_crash_points.specs.Calm.{HasFirm, IsCalm}
-use Rattle.sccs_crash_points.specs.Moments.{IsFrom, Went}
+use Rattle.sccs_crash_points.specs.CrashPoints.{IsFrom, Went}
 use Rattle.sccs_crash_points.specs.Recovery.{IsSettledPair, Pair, RecoversAs, fated, newer}
 use Rattle.sccs_group.specs.Finishing.{CanFinish, IsHeld}
 use Rattle.sccs_group.specs.Members.{IsPlainG, entries_of}

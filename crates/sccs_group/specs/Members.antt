@@ -6,14 +6,14 @@ use Rattle.sccs_disk.specs.Effects.{renamed}
 use Rattle.sccs_disk.specs.Files.{View}
 use Rattle.sccs_intents.specs.Intents.{AreOthers, entries_in, intent_file}
 use Rattle.sccs_intents.specs.Written.{IsIntent}
-use Rattle.sccs_intents.specs.declared.intents.Entry.{Entry}
+use Rattle.sccs_intents.specs.declared.intents.IntentEntry.{IntentEntry}
 use Rattle.sccs_intents.specs.declared.intents.Fate.{Fate}
 use Rattle.sccs_intents.specs.declared.intents.Fate.TheVariants.{Replaced, Removed}
 use Rattle.sccs_crash_points.specs.Recovery.{fate_at, is_kept, without_name}
 use Rattle.sccs_group.specs.declared.members.Member.{Member}
 
 -- their entries in the intent
-abbrev pub entries_of : List Member → List Entry
+abbrev pub entries_of : List Member → List IntentEntry
 entries_of members = map (λ (mem : Member). mem.entry) members
 
 -- The names are those of s-files, and differ.

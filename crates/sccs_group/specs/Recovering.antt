@@ -2,7 +2,7 @@
 use Rattle.std.specs.Prelude.{◌≡◌, ℕ, false, List, map, Option, None, Some, Result, Ok, Err}
 use Rattle.sccs_disk.specs.Files.{Content, View}
 use Rattle.sccs_intents.specs.Intents.{entries_in, intent_file, intent_of, plan_file, well_formed}
-use Rattle.sccs_intents.specs.declared.intents.Entry.{Entry}
+use Rattle.sccs_intents.specs.declared.intents.IntentEntry.{IntentEntry}
 use Rattle.sccs_crash_points.specs.Recovery.{without_name}
 use Rattle.sccs_group.specs.Members.{completed}
 use Rattle.sccs_group.specs.declared.members.Member.{Member}
@@ -10,8 +10,8 @@ use Rattle.sccs_group.specs.declared.recovering.GroupFault.{GroupFault}
 use Rattle.sccs_group.specs.declared.recovering.GroupFault.TheVariants.{BadIntent, Failed, Memory}
 
 -- the members that entries name; their g-files stay
-abbrev pub bare : List Entry → List Member
-bare entries = map (λ (e : Entry). record { entry = e; removes_g = false }) entries
+abbrev pub bare : List IntentEntry → List Member
+bare entries = map (λ (e : IntentEntry). record { entry = e; removes_g = false }) entries
 
 -- an intent is there, and this is its first line that isn't of its form
 abbrev pub IsBad : Option Content → ℕ → Type 0

@@ -1,6 +1,6 @@
 ghost use Rattle.std.specs.Prelude.{◌≡◌, ◌≤◌, Some, drop, IsErr, OnErr, OnOk};
 ghost use Rattle.std.specs.Str.{bytes_eq};
-ghost use Rattle.sccs_base.specs.Name.{IsSfile, p_file, q_file, sibling, x_file};
+ghost use Rattle.sccs_base.specs.Name.{IsSFileName, p_file, q_file, sibling, x_file};
 ghost use Rattle.sccs_disk.specs.Causes.{DiskCauses};
 ghost use Rattle.sccs_disk.specs.Files.{Remove, Rename, View};
 ghost use Rattle.sccs_disk.specs.Told.{seen};
@@ -48,7 +48,7 @@ pub fn take_place<D: Disk>(disk: &mut D, from: &Name, to: &Name) -> Result<(), F
 
 // puts the x-file in the place of the s-file
 fn place_s<D: Disk>(disk: &mut D, name: &Name) -> Result<(), Failed>
-    requires { IsSfile name.now }
+    requires { IsSFileName name.now }
     ensures view { OnOk result (Becomes (taken (x_file name.now) name.now) (seen (D.told disk.old)) (seen (D.told disk.new))) }
     ensures view_err { OnErr result (MayBecome (taken (x_file name.now) name.now) (seen (D.told disk.old)) (seen (D.told disk.new))) }
     ensures call { MayCall (Rename (x_file name.now) name.now) (x_file name.now) (D.told disk.old) (D.told disk.new) }
@@ -59,7 +59,7 @@ fn place_s<D: Disk>(disk: &mut D, name: &Name) -> Result<(), Failed>
 
 // puts the q-file in the place of the p-file
 fn place_q<D: Disk>(disk: &mut D, name: &Name) -> Result<(), Failed>
-    requires { IsSfile name.now }
+    requires { IsSFileName name.now }
     ensures view { OnOk result (Becomes (taken (q_file name.now) (p_file name.now)) (seen (D.told disk.old)) (seen (D.told disk.new))) }
     ensures view_err { OnErr result (MayBecome (taken (q_file name.now) (p_file name.now)) (seen (D.told disk.old)) (seen (D.told disk.new))) }
     ensures call { MayCall (Rename (q_file name.now) (p_file name.now)) (q_file name.now) (D.told disk.old) (D.told disk.new) }
@@ -70,7 +70,7 @@ fn place_q<D: Disk>(disk: &mut D, name: &Name) -> Result<(), Failed>
 
 /// Removes one of the files of an s-file's name, by its first letter, where it is there.
 pub fn clear_sibling<D: Disk>(disk: &mut D, name: &Name, letter: u8) -> Result<(), Failed>
-    requires sfile { IsSfile name.now }
+    requires sfile { IsSFileName name.now }
     requires low { 97 ≤ letter }
     requires high { letter ≤ 122 }
     ensures view { OnOk result (Becomes (without_name (sibling letter name.now)) (seen (D.told disk.old)) (seen (D.told disk.new))) }
@@ -83,7 +83,7 @@ pub fn clear_sibling<D: Disk>(disk: &mut D, name: &Name, letter: u8) -> Result<(
 
 // removes the g-file where it is there
 fn clear_g<D: Disk>(disk: &mut D, name: &Name) -> Result<(), Failed>
-    requires { IsSfile name.now }
+    requires { IsSFileName name.now }
     ensures view { OnOk result (Becomes (without_name (drop 2 name.now)) (seen (D.told disk.old)) (seen (D.told disk.new))) }
     ensures view_err { OnErr result (MayBecome (without_name (drop 2 name.now)) (seen (D.told disk.old)) (seen (D.told disk.new))) }
     ensures call { MayCall (Remove (drop 2 name.now)) (drop 2 name.now) (D.told disk.old) (D.told disk.new) }
@@ -94,7 +94,7 @@ fn clear_g<D: Disk>(disk: &mut D, name: &Name) -> Result<(), Failed>
 
 // puts the new p-file in the place of the old one, or removes that
 fn place_p<D: Disk>(disk: &mut D, name: &Name, fate: Fate) -> Result<(), Failed>
-    requires { IsSfile name.now }
+    requires { IsSFileName name.now }
     ensures view { OnOk result (Becomes (p_taken fate name.now) (seen (D.told disk.old)) (seen (D.told disk.new))) }
     ensures view_err { OnErr result (MayBecome (p_taken fate name.now) (seen (D.told disk.old)) (seen (D.told disk.new))) }
     ensures story { FinishesBy (λ (v : View). fate_at v name.now ≡ Some fate) (D.told disk.old) (D.told disk.new) }
@@ -109,7 +109,7 @@ fn place_p<D: Disk>(disk: &mut D, name: &Name, fate: Fate) -> Result<(), Failed>
 
 // removes the g-file of a member where it goes
 fn place_g<D: Disk>(disk: &mut D, member: &Member) -> Result<(), Failed>
-    requires { IsSfile member.now.entry.name }
+    requires { IsSFileName member.now.entry.name }
     ensures view { OnOk result (Becomes (g_gone member.now.removes_g member.now.entry.name) (seen (D.told disk.old)) (seen (D.told disk.new))) }
     ensures view_err { OnErr result (MayBecome (g_gone member.now.removes_g member.now.entry.name) (seen (D.told disk.old)) (seen (D.told disk.new))) }
     ensures story { FinishesBy (λ (v : View). IsNamed v member.now) (D.told disk.old) (D.told disk.new) }
@@ -126,7 +126,7 @@ fn place_g<D: Disk>(disk: &mut D, member: &Member) -> Result<(), Failed>
 /// Puts the new files of a member in their places: x over the s-file, then q over the p-file, or the
 /// p-file is removed; then y is removed, and the g-file where it goes.
 pub fn place<D: Disk>(disk: &mut D, member: &Member) -> Result<(), Failed>
-    requires { IsSfile member.now.entry.name }
+    requires { IsSFileName member.now.entry.name }
     ensures view { OnOk result (Becomes (placed member.now) (seen (D.told disk.old)) (seen (D.told disk.new))) }
     ensures halfway { OnErr result (PlacesPart member.now (seen (D.told disk.old)) (seen (D.told disk.new))) }
     ensures story { FinishesBy (λ (v : View). IsNamed v member.now) (D.told disk.old) (D.told disk.new) }

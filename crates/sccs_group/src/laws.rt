@@ -2,14 +2,14 @@
 ghost use Rattle.std.specs.Prelude.{◌≡◌, ◌<◌, ◌≤◌, ℕ, Bool, List, None, Some, false, length, IfSome};
 ghost use Rattle.std.specs.List.{AllByRecursion};
 ghost use Rattle.std.specs.Str.{bytes_eq};
-ghost use Rattle.sccs_base.specs.Name.{IsSfile, p_file, z_file};
+ghost use Rattle.sccs_base.specs.Name.{IsSFileName, p_file, z_file};
 ghost use Rattle.sccs_disk.specs.Files.{Model, View, put, view_of};
 ghost use Rattle.sccs_disk.specs.Told.{Tells, Told, seen};
 ghost use Rattle.sccs_name_files.specs.StepFiles.{Alike, moved};
 ghost use Rattle.sccs_name_files.specs.Touches.{Leaves, newest};
 ghost use Rattle.sccs_intents.specs.Intents.{has_name, intent_file};
 ghost use Rattle.sccs_crash_points.specs.Calm.{IsCalm};
-ghost use Rattle.sccs_crash_points.specs.Moments.{EndsAfter, EndsBefore, EndsWithin, IsFrom, RecoversOn, Went};
+ghost use Rattle.sccs_crash_points.specs.CrashPoints.{EndsAfter, EndsBefore, EndsWithin, IsFrom, RecoversOn, Went};
 ghost use Rattle.sccs_crash_points.specs.Recovery.{RecoversAs, fate_at, pair_of, recover};
 ghost use Rattle.sccs_crash_points.specs.Unlocked.{BeginsUnlocked, BeginsUnlockedBut, KeepsOthers};
 ghost use Rattle.sccs_group.specs.Changes.{Change, IsPrepared, IsReady, LFileStays, LFilesStay, after_changes, members_in};
@@ -44,10 +44,10 @@ pub fn groups_are_made_whole()
 /// With the intent in its place recovery of a member's name makes the new s-file and p-file, and that of
 /// another name what it makes without the intent.
 pub fn intents_name_the_new_files()
-    ensures members { (members : List Member) (v : View) (member : Member) → IsSfile member.entry.name
+    ensures members { (members : List Member) (v : View) (member : Member) → IsSFileName member.entry.name
         → fate_at (announced members v) member.entry.name ≡ Some member.entry.fate
         → pair_of (recover member.entry.name (announced members v)) member.entry.name ≡ new_pair_of member v }
-    ensures others { (members : List Member) (v : View) (n : List ℕ) → IsWritten members → IsSfile n → v intent_file ≡ None
+    ensures others { (members : List Member) (v : View) (n : List ℕ) → IsWritten members → IsSFileName n → v intent_file ≡ None
         → has_name (entries_of members) n ≡ false
         → pair_of (recover n (announced members v)) n ≡ pair_of (recover n v) n }
 {}
@@ -70,7 +70,7 @@ pub fn groups_recover_as_their_views()
 /// names are members, whose g-files stay.
 pub fn groups_leave_other_names()
     ensures intended { (v : View) → AreMembers (intended v) × AllByRecursion IsPlainG (intended v) }
-    ensures others { (members : List Member) (n : List ℕ) → AreMembers members → AllByRecursion IsPlainG members → IsSfile n
+    ensures others { (members : List Member) (n : List ℕ) → AreMembers members → AllByRecursion IsPlainG members → IsSFileName n
         → has_name (entries_of members) n ≡ false
         → (is_own_of_group members n ≡ false) × (is_own_of_group members (p_file n) ≡ false) × (is_own_of_group members (z_file n) ≡ false) }
 {}

@@ -2,7 +2,7 @@
 use Rattle.std.proofs.Common.{◌≡◌, ℕ, Bool, true, false, ◌||◌, cond, List, [], ◌∷◌, ◌++◌, drop, Option, None, Some, refl, sym, ap, subst, ◌∙◌, ⊎_elim}
 use Rattle.std.specs.List.{AllByRecursion}
 use Rattle.std.specs.Str.{bytes_eq}
-use Rattle.sccs_base.specs.Name.{IsSfile, p_file, q_file, sibling, x_file, y_file, z_file}
+use Rattle.sccs_base.specs.Name.{IsSFileName, p_file, q_file, sibling, x_file, y_file, z_file}
 use Rattle.sccs_base.proofs.SameBytes.{bytes_eq_sym, other_bytes, same_bytes}
 use Rattle.sccs_disk.specs.Files.{Content, View, put}
 use Rattle.sccs_disk.proofs.Puts.{name_cases, put_other, put_same}
@@ -20,11 +20,11 @@ use Rattle.sccs_base.proofs.Bools.{right_false, left_false}
 pub left_p : (n k : List ℕ) → is_left n (p_file k) ≡ false
 left_p n k = refl
 
-pub left_y : (n k : List ℕ) → IsSfile n → IsSfile k → bytes_eq n k ≡ false → is_left n (y_file k) ≡ false
+pub left_y : (n k : List ℕ) → IsSFileName n → IsSFileName k → bytes_eq n k ≡ false → is_left n (y_file k) ≡ false
 left_y n k sfile other apart = or_from _ false (siblings_differ 121 n k sfile other apart) refl
 
 -- a name that begins with no such letter
-pub begins_not : (letter : ℕ) (k l : List ℕ) → begins_by_letter letter k ≡ false → IsSfile l → bytes_eq (sibling letter l) k ≡ false
+pub begins_not : (letter : ℕ) (k l : List ℕ) → begins_by_letter letter k ≡ false → IsSFileName l → bytes_eq (sibling letter l) k ≡ false
 begins_not letter k [] not_so sfile = absurd (let e = sfile.front in cc)
 begins_not letter k (b ∷ []) not_so sfile = absurd (let e = sfile.front in cc)
 begins_not letter k (b ∷ d ∷ rest) not_so sfile =
@@ -34,12 +34,12 @@ begins_not letter k (b ∷ d ∷ rest) not_so sfile =
     absurd (cc))
 
 -- an s-file's name has two bytes before that of its g-file
-two_and_rest : (n : List ℕ) → IsSfile n → n ≡ 115 ∷ 46 ∷ drop 2 n
+two_and_rest : (n : List ℕ) → IsSFileName n → n ≡ 115 ∷ 46 ∷ drop 2 n
 two_and_rest [] sfile = absurd (let e = sfile.front in cc)
 two_and_rest (b ∷ []) sfile = absurd (let e = sfile.front in cc)
 two_and_rest (b ∷ d ∷ rest) sfile = ap (λ (l : List ℕ). l ++ rest) sfile.front
 
-modules_differ : (n k : List ℕ) → IsSfile n → IsSfile k → bytes_eq n k ≡ false → bytes_eq (drop 2 n) (drop 2 k) ≡ false
+modules_differ : (n k : List ℕ) → IsSFileName n → IsSFileName k → bytes_eq n k ≡ false → bytes_eq (drop 2 n) (drop 2 k) ≡ false
 modules_differ n k sfile other apart =
     other_bytes (drop 2 n) (drop 2 k)
     (λ e. let one : n ≡ k = two_and_rest n sfile ∙ (ap (λ (l : List ℕ). 115 ∷ 46 ∷ l) e ∙ sym (two_and_rest k other)) in
@@ -63,7 +63,7 @@ unkept_s : (k : List ℕ) → is_kept k ≡ false → begins_by_letter 115 k ≡
 unkept_s k h = left_false (begins_by_letter 115 k) _ h
 
 -- the g-file of a plain name is no left file
-pub left_g : (n k : List ℕ) → IsSfile n → IsPlainName k → is_left n (drop 2 k) ≡ false
+pub left_g : (n k : List ℕ) → IsSFileName n → IsPlainName k → is_left n (drop 2 k) ≡ false
 left_g n k sfile plain =
     or_from _ _
     (or_from _ _ (begins_not 120 (drop 2 k) n (unkept_x (drop 2 k) plain.kept) sfile)
@@ -80,7 +80,7 @@ pub record IsOutside (mine : List ℕ → Bool) (n : List ℕ) : Type 0 where
   pub q : mine (q_file n) ≡ false
   pub y : mine (y_file n) ≡ false
 
-pub outside_one : (n k : List ℕ) → IsSfile n → IsSfile k → bytes_eq n k ≡ false → IsPlainName k → IsOutside (is_left n) k
+pub outside_one : (n k : List ℕ) → IsSFileName n → IsSFileName k → bytes_eq n k ≡ false → IsPlainName k → IsOutside (is_left n) k
 outside_one n k sfile other apart plain = record {
   s = left_s n k other;
   p = left_p n k;
@@ -102,7 +102,7 @@ outside_both f g k a b = record {
   y = or_from _ _ a.y b.y;
 }
 
-pub outside_any : (names : List (List ℕ)) (k : List ℕ) → AllByRecursion IsSfile names → IsSfile k → is_among names k ≡ false → IsPlainName k → IsOutside (is_any_left names) k
+pub outside_any : (names : List (List ℕ)) (k : List ℕ) → AllByRecursion IsSFileName names → IsSFileName k → is_among names k ≡ false → IsPlainName k → IsOutside (is_any_left names) k
 outside_any [] k sfiles other apart plain = record { s = refl; p = refl; z = refl; g = refl; x = refl; q = refl; y = refl }
 outside_any (n ∷ names) k sfiles other apart plain =
     outside_both (is_left n) (is_any_left names) k (outside_one n k sfiles.0 other (left_false _ _ apart) plain) (outside_any names k sfiles.1 other (right_false _ _ apart) plain)
@@ -164,7 +164,7 @@ placed_apart n k v f stays s p z g =
     ∙ (put_other (put v (l_file n) f.l) (z_file n) k f.z z ∙ (ap (λ (o : Option Content). put v (l_file n) o k) stays ∙ l_stays n v k))))
 
 -- the files of another name are those before
-pub files_elsewhere : (n k : List ℕ) (v : View) (f : Files) → f.l ≡ v (l_file n) → IsSfile n → IsSfile k → bytes_eq n k ≡ false → IsPlainName n → IsPlainName k → SameFiles k v (moved v n (Some f))
+pub files_elsewhere : (n k : List ℕ) (v : View) (f : Files) → f.l ≡ v (l_file n) → IsSFileName n → IsSFileName k → bytes_eq n k ≡ false → IsPlainName n → IsPlainName k → SameFiles k v (moved v n (Some f))
 files_elsewhere n k v f stays sfile other apart plain plain2 = record {
   s = placed_apart n k v f stays apart (from_sfile 112 n k other refl) (from_sfile 122 n k other refl) (g_free (unkept_s (drop 2 n) plain.kept));
   p = placed_apart n (p_file k) v f stays (to_sfile 112 n k sfile refl) (siblings_differ 112 n k sfile other apart) refl (g_side 112 (unkept_p (drop 2 n) plain.kept));
@@ -189,7 +189,7 @@ pub unkept_intent : (k : List ℕ) → is_kept k ≡ false → bytes_eq k intent
 unkept_intent k h =
     right_false (begins_by_letter 113 k) _ (right_false (begins_by_letter 120 k) _ (right_false (begins_by_letter 122 k) _ (right_false (begins_by_letter 112 k) _ (right_false (begins_by_letter 115 k) _ h))))
 
-pub outside_intent : (n : List ℕ) → IsSfile n → IsPlainName n → IsOutside (λ k. bytes_eq plan_file k || bytes_eq intent_file k) n
+pub outside_intent : (n : List ℕ) → IsSFileName n → IsPlainName n → IsOutside (λ k. bytes_eq plan_file k || bytes_eq intent_file k) n
 outside_intent n sfile plain = record {
   s = or_from _ _ (plan_and_sfile n sfile) (intent_and_sfile n sfile);
   p = refl;

@@ -4,7 +4,7 @@ use Rattle.std.proofs.lemmas.List.{take-append-drop, map-append}
 use Rattle.std.proofs.lemmas.List.Folds.{list_any-append}
 use Rattle.std.specs.List.{AllByRecursion, list_any}
 use Rattle.std.specs.Str.{bytes_eq}
-use Rattle.sccs_base.specs.Name.{IsName, IsSfile, is_sfile_name, q_file, sfile_name_decides, x_file, y_file, z_file}
+use Rattle.sccs_base.specs.Name.{IsName, IsSFileName, is_sfile_name, q_file, sfile_name_decides, x_file, y_file, z_file}
 use Rattle.sccs_sid.specs.declared.moments.Stamp.{Stamp}
 use Rattle.sccs_sid.specs.declared.refusals.Refusal.{Refusal}
 use Rattle.sccs_sid.specs.declared.refusals.StepFault.{StepFault}
@@ -79,7 +79,7 @@ told_free o n p None ov one = tt
 told_free o n p (Some u) None one = absurd one
 told_free o n p (Some u) (Some v) one = one.held.free
 
-fits_named : (n : List ℕ) → IsName n → IsSfile n → is_sfile_name n ≡ true
+fits_named : (n : List ℕ) → IsName n → IsSFileName n → is_sfile_name n ≡ true
 fits_named n name sfile = (sfile_name_decides n).1 (name, sfile)
 
 -- memory is wanting for the list
@@ -207,7 +207,7 @@ broke_by names made n fault o steps u v w x parts alike ends broken = λ k h.
     let free = parts k h in
     broken k free.0 ∙ (err_alike fault n o v w ends k free.1 ∙ alike k free.0)
 
-given_up_in : (stamp : Stamp) (entries : List GroupEntry) (i : ℕ) (made : List PreparedEntry) (e : GroupEntry) (fault r : StepFault) (u v w : View) (ox : Option View) → (is_sfile_name e.name ≡ true → IsSfile e.name) → AreDifferent (names_of entries) → ArePlain (names_of entries)
+given_up_in : (stamp : Stamp) (entries : List GroupEntry) (i : ℕ) (made : List PreparedEntry) (e : GroupEntry) (fault r : StepFault) (u v w : View) (ox : Option View) → (is_sfile_name e.name ≡ true → IsSFileName e.name) → AreDifferent (names_of entries) → ArePlain (names_of entries)
     → drop i entries ≡ e ∷ drop (i + 1) entries → SoFar stamp entries i made u v → PreparesEntry (Err fault) e.name (entry_outcome stamp v e) v w → GivesAllBack r fault (made_names made) (Some w) ox
     → Between (λ u x. GivesUpAt r e.name (sfiles_of (names_of entries)) (entry_steps stamp u entries) u x) (Some u) ox
 given_up_in stamp entries i made e fault r u v w ox fits different plain at far ends gives = by gives
@@ -249,7 +249,7 @@ given_up_in stamp entries i made e fault r u v w ox fits different plain at far 
     by (inr broken) = subst (λ (f : StepFault). Between (λ u x. GivesUpAt f e.name (sfiles_of (names_of entries)) (entry_steps stamp u entries) u x) (Some u) ox) (sym broken.0) (broke ox broken.1)
 
 -- the same of what is told
-pub given_up_at : (stamp : Stamp) (entries : List GroupEntry) (i : ℕ) (made : List PreparedEntry) (all : List PreparedEntry) (e : GroupEntry) (fault r : StepFault) (ou ov ow ox : Option View) → (is_sfile_name e.name ≡ true → IsSfile e.name) → AreDifferent (names_of entries) → ArePlain (names_of entries)
+pub given_up_at : (stamp : Stamp) (entries : List GroupEntry) (i : ℕ) (made : List PreparedEntry) (all : List PreparedEntry) (e : GroupEntry) (fault r : StepFault) (ou ov ow ox : Option View) → (is_sfile_name e.name ≡ true → IsSFileName e.name) → AreDifferent (names_of entries) → ArePlain (names_of entries)
     → drop i entries ≡ e ∷ drop (i + 1) entries → Between (SoFar stamp entries i made) ou ov → Between (λ v w. AddsEntry (Err fault) e.name (entry_outcome stamp v e) made all v w) ov ow → GivesAllBack r fault (made_names made) ow ox
     → Between (λ u x. GivesUpAt r e.name (sfiles_of (names_of entries)) (entry_steps stamp u entries) u x) ou ox
 given_up_at stamp entries i made all e fault r None ov ow ox fits different plain at far ends gives = tt
@@ -258,7 +258,7 @@ given_up_at stamp entries i made all e fault r (Some u) (Some v) None ox fits di
 given_up_at stamp entries i made all e fault r (Some u) (Some v) (Some w) ox fits different plain at far ends gives = given_up_in stamp entries i made e fault r u v w ox fits different plain at far ends gives
 
 -- the next entry is put behind the others
-pub added_at : (stamp : Stamp) (entries : List GroupEntry) (i : ℕ) (made all : List PreparedEntry) (e : GroupEntry) (done : Unit {0}) (ou ov ow : Option View) → (is_sfile_name e.name ≡ true → IsSfile e.name) → AreDifferent (names_of entries) → ArePlain (names_of entries)
+pub added_at : (stamp : Stamp) (entries : List GroupEntry) (i : ℕ) (made all : List PreparedEntry) (e : GroupEntry) (done : Unit {0}) (ou ov ow : Option View) → (is_sfile_name e.name ≡ true → IsSFileName e.name) → AreDifferent (names_of entries) → ArePlain (names_of entries)
     → drop i entries ≡ e ∷ drop (i + 1) entries → take (i + 1) entries ≡ take i entries ++ e ∷ [] → Between (SoFar stamp entries i made) ou ov → Between (λ v w. AddsEntry (Ok done) e.name (entry_outcome stamp v e) made all v w) ov ow
     → Between (SoFar stamp entries (i + 1) all) ou ow
 added_at stamp entries i made all e done None ov ow fits different plain at more far ends = tt

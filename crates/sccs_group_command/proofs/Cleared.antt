@@ -3,7 +3,7 @@ use Rattle.std.proofs.Common.{◌≡◌, ◌⊎◌, ◌||◌, ℕ, Bool, true, f
 use Rattle.std.specs.Prelude.{is_some}
 use Rattle.std.specs.List.{AllByRecursion}
 use Rattle.std.specs.Str.{bytes_eq}
-use Rattle.sccs_base.specs.Name.{IsSfile, p_file, q_file, x_file, y_file, z_file}
+use Rattle.sccs_base.specs.Name.{IsSFileName, p_file, q_file, x_file, y_file, z_file}
 use Rattle.sccs_disk.specs.Effects.{renamed}
 use Rattle.sccs_disk.specs.Files.{Content, View, put}
 use Rattle.sccs_disk.specs.Told.{Shows}
@@ -61,7 +61,7 @@ placed_either x w k o s p either =
     g_either (removes x.prepared.new_g) x.name (without_name (y_file x.name) (p_taken (fate_of x.prepared.new_p) x.name (taken (x_file x.name) x.name w))) k o (without_either (y_file x.name) (p_taken (fate_of x.prepared.new_p) x.name (taken (x_file x.name) x.name w)) k o (p_either (fate_of x.prepared.new_p) x.name (taken (x_file x.name) x.name w) k o p (taken_either (x_file x.name) x.name w k o s either)))
 
 -- the x-file takes the place of the s-file
-x_gone : (n : List ℕ) (w : View) (new : Bool) → IsSfile n → new ≡ true → Needs (replaced new) (x_file n) n (Shows w) → taken (x_file n) n w (x_file n) ≡ None
+x_gone : (n : List ℕ) (w : View) (new : Bool) → IsSFileName n → new ≡ true → Needs (replaced new) (x_file n) n (Shows w) → taken (x_file n) n w (x_file n) ≡ None
 x_gone n w true sfile is there =
     ap (λ (b : Bool). cond b (renamed (x_file n) n w) w (x_file n)) (some_is (w (x_file n)) there) ∙ (put_other (put w (x_file n) None) n (x_file n) (w (x_file n)) (to_s 120 n sfile refl) ∙ put_same w (x_file n) None)
 x_gone n w false sfile is there = absurd (cc)
@@ -142,7 +142,7 @@ closed_either [] w k o either = either
 closed_either (x ∷ made) w k o either = closed_either made (without_name (z_file x.name) w) k o (without_either (z_file x.name) w k o either)
 
 -- a working file is no s-file and no p-file
-no_pairs : (made all : List PreparedEntry) (k : List ℕ) → AllByRecursion IsSfile (made_names made) → is_group_working (made_names all) k ≡ true → AllByRecursion (IsNoPair k) made
+no_pairs : (made all : List PreparedEntry) (k : List ℕ) → AllByRecursion IsSFileName (made_names made) → is_group_working (made_names all) k ≡ true → AllByRecursion (IsNoPair k) made
 no_pairs [] all k sfiles working = tt
 no_pairs (x ∷ made) all k sfiles working = ((s_not (name_cases x.name k), p_not (name_cases (p_file x.name) k)), no_pairs made all k sfiles.1 working)
   where

@@ -3,7 +3,7 @@ use Rattle.std.proofs.Common.{◌≡◌, ◌⊎◌, ℕ, Bool, true, false, ◌|
 use Rattle.std.specs.Prelude.{is_some}
 use Rattle.std.specs.List.{AllByRecursion}
 use Rattle.std.specs.Str.{bytes_eq}
-use Rattle.sccs_base.specs.Name.{IsSfile, p_file, q_file, x_file, y_file, z_file}
+use Rattle.sccs_base.specs.Name.{IsSFileName, p_file, q_file, x_file, y_file, z_file}
 use Rattle.sccs_base.proofs.SameBytes.{bytes_eq_sym}
 use Rattle.sccs_disk.specs.Effects.{renamed}
 use Rattle.sccs_disk.specs.Files.{Content, View, put}
@@ -60,13 +60,13 @@ g_is_gone n w Replace k goes y = absurd goes
 g_is_gone n w Remove k goes y = ap (λ (o : Option Content). cond (bytes_eq (drop 2 n) k) None o) (put_other w (y_file n) k None y)
 
 -- the q-file is there still when the s-file is in its place
-pub q_there : (n : List ℕ) (w : View) (new : NewFile) (c : NewFile) → IsSfile n → Needs new (q_file n) (p_file n) (Shows w) → Needs new (q_file n) (p_file n) (Shows (swapped c (x_file n) n w))
+pub q_there : (n : List ℕ) (w : View) (new : NewFile) (c : NewFile) → IsSFileName n → Needs new (q_file n) (p_file n) (Shows w) → Needs new (q_file n) (p_file n) (Shows (swapped c (x_file n) n w))
 q_there n w Keep c sfile needs = tt
 q_there n w Replace c sfile needs = subst (λ (o : Option Content). IsSome o) (sym (swapped_other c (x_file n) n w (q_file n) refl (to_s 113 n sfile refl))) needs
 q_there n w Remove c sfile needs = subst (λ (o : Option Content). IsSome o) (sym (swapped_other c (x_file n) n w (p_file n) refl (to_s 112 n sfile refl))) needs
 
 -- the new files are in their places
-pub placed_at : (x : PreparedEntry) (w : View) (k : List ℕ) → IsSfile x.name → IsDeltaPlan x.prepared → IsReady x.name x.prepared (Shows w) → is_left x.name k ≡ false
+pub placed_at : (x : PreparedEntry) (w : View) (k : List ℕ) → IsSFileName x.name → IsDeltaPlan x.prepared → IsReady x.name x.prepared (Shows w) → is_left x.name k ≡ false
     → group.placed (member_of x) w k ≡ placed w x.name (files_after x.name (plan_of x.prepared) w) k
 placed_at x w k sfile kind ready h =
     let n : List ℕ = x.name in
@@ -81,7 +81,7 @@ placed_at x w k sfile kind ready h =
 -- ---- all members
 
 -- a member's new files leave those of another name
-member_elsewhere : (x : PreparedEntry) (u w : View) (n : List ℕ) → IsHeldEntry u w x.name x.prepared → IsSfile n → bytes_eq x.name n ≡ false → IsPlainName x.name → IsPlainName n → SameFiles n w (group.placed (member_of x) w)
+member_elsewhere : (x : PreparedEntry) (u w : View) (n : List ℕ) → IsHeldEntry u w x.name x.prepared → IsSFileName n → bytes_eq x.name n ≡ false → IsPlainName x.name → IsPlainName n → SameFiles n w (group.placed (member_of x) w)
 member_elsewhere x u w n held other apart plain plain2 =
     let out : IsOutside (is_left x.name) n = outside_one x.name n held.sfile other apart plain2 in
     let same : SameFiles n w (moved w x.name (Some (files_after x.name (plan_of x.prepared) w))) = files_elsewhere x.name n w (files_after x.name (plan_of x.prepared) w) refl held.sfile other apart plain plain2 in
@@ -151,7 +151,7 @@ unlocked_kept (x ∷ made) v k h = unlocked_kept made (without_name (z_file x.na
 
 -- the name whose z-file is a left file that is no working file
 z_of : (made : List PreparedEntry) (u v : View) (k : List ℕ) → AreHeld u v made → is_any_left (made_names made) k ≡ true → is_any_working (made_names made) k ≡ false
-    → (w : View) → ((n : List ℕ) × IsSfile n × (z_file n ≡ k)) × (each_by unlocked (map member_of made) w k ≡ None)
+    → (w : View) → ((n : List ℕ) × IsSFileName n × (z_file n ≡ k)) × (each_by unlocked (map member_of made) w k ≡ None)
 z_of [] u v k held left free w = absurd (cc)
 z_of (x ∷ made) u v k held left free w =
     by (z_or_not x.name k (left_false (is_working x.name k) _ free)) (λ later. z_of made u v k held.1 later (right_false (is_working x.name k) _ free) (without_name (z_file x.name) w))
@@ -161,13 +161,13 @@ z_of (x ∷ made) u v k held left free w =
     later_one false c is none = is
 
     by : (z_file x.name ≡ k) ⊎ (is_left x.name k ≡ false)
-        → (is_any_left (made_names made) k ≡ true → ((n : List ℕ) × IsSfile n × (z_file n ≡ k)) × (each_by unlocked (map member_of made) (without_name (z_file x.name) w) k ≡ None))
-        → ((n : List ℕ) × IsSfile n × (z_file n ≡ k)) × (each_by unlocked (map member_of (x ∷ made)) w k ≡ None)
+        → (is_any_left (made_names made) k ≡ true → ((n : List ℕ) × IsSFileName n × (z_file n ≡ k)) × (each_by unlocked (map member_of made) (without_name (z_file x.name) w) k ≡ None))
+        → ((n : List ℕ) × IsSFileName n × (z_file n ≡ k)) × (each_by unlocked (map member_of (x ∷ made)) w k ≡ None)
     by (inl is) rest = ((x.name, held.0.sfile, is), unlocked_none made (without_name (z_file x.name) w) k (subst (λ (l : List ℕ). without_name (z_file x.name) w l ≡ None) is (put_same w (z_file x.name) None)))
     by (inr out) rest = rest (later_one (is_left x.name k) _ left out)
 
 -- a z-file that isn't there isn't made
-z_placed : (n m : List ℕ) (w : View) (f : Files) → f.z ≡ None → IsSfile n → IsSfile m → IsPlainName n → w (z_file m) ≡ None → placed w n f (z_file m) ≡ None
+z_placed : (n m : List ℕ) (w : View) (f : Files) → f.z ≡ None → IsSFileName n → IsSFileName m → IsPlainName n → w (z_file m) ≡ None → placed w n f (z_file m) ≡ None
 z_placed n m w f free sfile other plain none =
     put_other (put (put (put w (z_file n) f.z) (drop 2 n) f.g) (p_file n) f.p) n (z_file m) f.s (to_sfile 122 n m sfile refl)
     ∙ (put_other (put (put w (z_file n) f.z) (drop 2 n) f.g) (p_file n) (z_file m) f.p refl
@@ -177,12 +177,12 @@ z_placed n m w f free sfile other plain none =
     by true = free
     by false = none
 
-z_moved : (made : List PreparedEntry) (v w : View) (m : List ℕ) → AllByRecursion IsSfile (made_names made) → ArePlain (made_names made) → IsSfile m → w (z_file m) ≡ None → all_moved w (moves_in v w made) (z_file m) ≡ None
+z_moved : (made : List PreparedEntry) (v w : View) (m : List ℕ) → AllByRecursion IsSFileName (made_names made) → ArePlain (made_names made) → IsSFileName m → w (z_file m) ≡ None → all_moved w (moves_in v w made) (z_file m) ≡ None
 z_moved [] v w m sfiles plain other none = none
 z_moved (x ∷ made) v w m sfiles plain other none =
     z_moved made v (placed w x.name (files_in v w x)) m sfiles.1 plain.1 other (z_placed x.name m w (files_in v w x) refl sfiles.0 other plain.0 none)
 
-intent_moved : (made : List PreparedEntry) (v w : View) → AllByRecursion IsSfile (made_names made) → ArePlain (made_names made) → all_moved w (moves_in v w made) intent_file ≡ w intent_file
+intent_moved : (made : List PreparedEntry) (v w : View) → AllByRecursion IsSFileName (made_names made) → ArePlain (made_names made) → all_moved w (moves_in v w made) intent_file ≡ w intent_file
 intent_moved [] v w sfiles plain = refl
 intent_moved (x ∷ made) v w sfiles plain =
     intent_moved made v (placed w x.name (files_in v w x)) sfiles.1 plain.1
@@ -196,7 +196,7 @@ announced_other ms v k h =
     put_other (put (planned ms v) plan_file None) intent_file k (planned ms v plan_file) (right_false (bytes_eq plan_file k) _ h)
     ∙ (put_other (planned ms v) plan_file k None (left_false (bytes_eq plan_file k) _ h) ∙ put_other v plan_file k (Some (file_of (intent_text (entries_of ms)))) (left_false (bytes_eq plan_file k) _ h))
 
-pub all_announced : (made : List PreparedEntry) (ms : List Member) (v : View) → AllByRecursion IsSfile (made_names made) → ArePlain (made_names made) → AreSame v (announced ms v) made
+pub all_announced : (made : List PreparedEntry) (ms : List Member) (v : View) → AllByRecursion IsSFileName (made_names made) → ArePlain (made_names made) → AreSame v (announced ms v) made
 all_announced [] ms v sfiles plain = tt
 all_announced (x ∷ made) ms v sfiles plain =
     (same_files (λ k. bytes_eq plan_file k || bytes_eq intent_file k) x.name v (announced ms v) (outside_intent x.name sfiles.0 plain.0) (λ k h. announced_other ms v k h), all_announced made ms v sfiles.1 plain.1)

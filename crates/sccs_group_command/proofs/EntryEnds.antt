@@ -1,7 +1,7 @@
 -- How preparing an entry ends.
 use Rattle.std.proofs.Common.{◌≡◌, ◌≢◌, ◌⊎◌, ◌&&◌, ℕ, Bool, true, false, List, [], drop, Option, None, Some, IfSome, IsSome, Result, Ok, Err, inl, inr, refl, sym, ap, subst, ◌∙◌}
 use Rattle.std.specs.Str.{bytes_eq}
-use Rattle.sccs_base.specs.Name.{IsName, IsSfile, is_sfile_name, p_file, q_file, x_file, y_file, z_file}
+use Rattle.sccs_base.specs.Name.{IsName, IsSFileName, is_sfile_name, p_file, q_file, x_file, y_file, z_file}
 use Rattle.sccs_base.specs.Stream.{GivesOk}
 use Rattle.sccs_sid.specs.declared.moments.Stamp.{Stamp}
 use Rattle.sccs_sid.specs.declared.refusals.Refusal.{Refusal}
@@ -140,14 +140,14 @@ s_there words stamp n i f effect is none =
     let parts = step_parts words stamp n i f effect is in
     none_found f.p parts.found (subst (λ (o : Option Content). pending_of o f.p ≡ Ok parts.found) none parts.pending)
 
-seen_s : (n : List ℕ) (u : View) → IsSfile n → u n ≡ None → (look (unlocked n (locked n u)) n).s ≡ None
+seen_s : (n : List ℕ) (u : View) → IsSFileName n → u n ≡ None → (look (unlocked n (locked n u)) n).s ≡ None
 seen_s n u sfile none = put_other (locked n u) (z_file n) n None (from_s 122 n sfile refl) ∙ (put_other u (z_file n) n (Some empty_file) (from_s 122 n sfile refl) ∙ none)
 
 -- the name is as sound as it was
-sound_left : (n : List ℕ) (u v : View) → IsSfile n → Alike (is_left n) v u → IsSound n u → IsSound n v
+sound_left : (n : List ℕ) (u v : View) → IsSFileName n → Alike (is_left n) v u → IsSound n u → IsSound n v
 sound_left n u v sfile alike sound = sound_kept n u v sound (alike intent_file refl) (pair_same _ _ _ _ (alike n (left_s n n sfile)) (alike (p_file n) refl))
 
-settled_in : (n : List ℕ) (p : Prepared) (u v : View) (told : Told) → IsSfile n → seen told ≡ Some v → Alike (is_left n) v u → (u n ≡ None → ⊥) → SettlesEntries n p told → IsSound n u → KeepsEntries n (plan_of p) v
+settled_in : (n : List ℕ) (p : Prepared) (u v : View) (told : Told) → IsSFileName n → seen told ≡ Some v → Alike (is_left n) v u → (u n ≡ None → ⊥) → SettlesEntries n p told → IsSound n u → KeepsEntries n (plan_of p) v
 settled_in n p u v told sfile is alike there settles sound =
     ((subst (λ (o : Option View). IfSome o (λ (w : View). IsPaired n w → IsSound n w → KeepsEntries n (plan_of p) w × ArePaired (files_after n (plan_of p) w).s (files_after n (plan_of p) w).p)) is settles)
     (λ none. absurd (there (sym (alike n (left_s n n sfile)) ∙ none))) (sound_left n u v sfile alike sound)).0
@@ -156,7 +156,7 @@ settled_in n p u v told sfile is alike there settles sound =
 abbrev of_free : Stamp → GroupEntry → View → Outcome
 of_free stamp e v = delta_outcome e.words stamp e.name e.script [] (look (unlocked e.name v) e.name)
 
-prepared_in : (stamp : Stamp) (e : GroupEntry) (p : Prepared) (u v : View) (told : Told) → IsName e.name → IsSfile e.name → is_sfile_name e.name ≡ true → u (z_file e.name) ≡ None → seen told ≡ Some v → IsReady e.name p told → IsDeltaPlan p → SettlesEntries e.name p told
+prepared_in : (stamp : Stamp) (e : GroupEntry) (p : Prepared) (u v : View) (told : Told) → IsName e.name → IsSFileName e.name → is_sfile_name e.name ≡ true → u (z_file e.name) ≡ None → seen told ≡ Some v → IsReady e.name p told → IsDeltaPlan p → SettlesEntries e.name p told
     → IsPrepared e.name p (of_free stamp e (locked e.name u)) (world (Some (locked e.name u)) (Some []) None) (world (Some v) (Some []) None) → IsPreparedEntry u v e.name p (entry_outcome stamp u e)
 prepared_in stamp e p u v told name sfile fits free is ready kind settles r = record {
   is = free_outcome stamp e u fits free ∙ (r.is ∙ ap Ok (effect_is r.effect (Some (files_after e.name (plan_of p) v)) p.report p.message r.files (no_text r.effect.text r.out) r.report r.message r.status));
@@ -177,7 +177,7 @@ prepared_in stamp e p u v told name sfile fits free is ready kind settles r = re
 abbrev pub SaysOf : Stamp → GroupEntry → Result Prepared StepFault → Option View → Option View → Type 0
 SaysOf stamp e r ol ov = (out err : Option (List ℕ)) → IfSome ol (λ (v : View). Prepares r e.name (of_free stamp e v) (world (Some v) out err) (world ov out err))
 
-pub prepared_entry : (stamp : Stamp) (e : GroupEntry) (p : Prepared) (ou ol : Option View) (told : Told) → IsName e.name → IsSfile e.name → is_sfile_name e.name ≡ true → Becomes (locked e.name) ou ol → IfSome ou (λ (u : View). u (z_file e.name) ≡ None)
+pub prepared_entry : (stamp : Stamp) (e : GroupEntry) (p : Prepared) (ou ol : Option View) (told : Told) → IsName e.name → IsSFileName e.name → is_sfile_name e.name ≡ true → Becomes (locked e.name) ou ol → IfSome ou (λ (u : View). u (z_file e.name) ≡ None)
     → SaysOf stamp e (Ok p) ol (seen told) → IsReady e.name p told → IsDeltaPlan p → SettlesEntries e.name p told → Between (λ u v. PreparesEntry (Ok p) e.name (entry_outcome stamp u e) u v) ou (seen told)
 prepared_entry stamp e p None ol told name sfile fits locks free says ready kind settles = tt
 prepared_entry stamp e p (Some u) ol told name sfile fits locks free says ready kind settles = by (seen told) refl

@@ -2,7 +2,7 @@
 use Rattle.std.proofs.Common.{◌≡◌, ◌+◌, ℕ, zero, suc, Bool, false, List, [], ◌∷◌, ◌++◌, drop, take, sym, subst, ◌∙◌}
 use Rattle.std.specs.List.{AllByRecursion}
 use Rattle.std.specs.Str.{bytes_eq}
-use Rattle.sccs_base.specs.Name.{IsSfile, q_file, x_file}
+use Rattle.sccs_base.specs.Name.{IsSFileName, q_file, x_file}
 use Rattle.sccs_base.proofs.SameBytes.{bytes_eq_sym}
 use Rattle.sccs_disk.specs.Files.{Model}
 use Rattle.sccs_disk.specs.Images.{IsFirm}
@@ -49,7 +49,7 @@ still_where Remove k first mine a b d before touches out firm = tt
 
 -- ---- all names
 
-all_still : (made : List PreparedEntry) (n : List ℕ) (first : List ℕ → Bool) (a b d : Told) → IsSfile n → AllByRecursion IsNamed (made_names made) → is_among (made_names made) n ≡ false → TouchesOnly first a b → TouchesOnly (is_left n) b d → AreFirm made a b → AreFirm made a d
+all_still : (made : List PreparedEntry) (n : List ℕ) (first : List ℕ → Bool) (a b d : Told) → IsSFileName n → AllByRecursion IsNamed (made_names made) → is_among (made_names made) n ≡ false → TouchesOnly first a b → TouchesOnly (is_left n) b d → AreFirm made a b → AreFirm made a d
 all_still [] n first a b d sfile named apart before touches firm = tt
 all_still (x ∷ made) n first a b d sfile named apart before touches firm =
     let other : bytes_eq n x.name ≡ false = bytes_eq_sym n x.name ∙ left_false _ _ apart in (

@@ -26,7 +26,7 @@ use Rattle.sccs_group_command.specs.GroupStep.{EntrySteps, entry_steps, group_st
 use Rattle.sccs_group_command.specs.Making.{IsHalfMade, IsMade, is_group_left, is_group_working}
 use Rattle.sccs_group_command.specs.Preparing.{ArePlain, IsGivenBack, IsPlainName, is_any_left, is_any_working, sfiles_of}
 use Rattle.sccs_group_command.proofs.StepsAhead.{steps_same}
-use Rattle.sccs_group_command.specs.GroupCourses.{group_action, group_parts}
+use Rattle.sccs_group_command.specs.GroupStepLists.{group_action, group_parts}
 use Rattle.sccs_group_command.proofs.GroupSteps.{FitMove, FitMoves, free_or_still, more_are, more_fit, move_names, moves_are, no_new, parts_are}
 use Rattle.std.proofs.lemmas.Bool.{or_from}
 use Rattle.sccs_base.proofs.Bools.{right_false, left_false}

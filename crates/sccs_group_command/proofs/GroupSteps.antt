@@ -13,7 +13,7 @@ use Rattle.sccs_steps.specs.StepLists.{Move, NamedStep, all_moved, moves_of, nam
 use Rattle.sccs_group_command.specs.declared.entries.GroupEntry.{GroupEntry}
 use Rattle.sccs_group_command.specs.GroupStep.{EntrySteps, entry_outcome, entry_steps, go_on, group_step, joined, joint_step, names_of, put_first, refused_step, unmoved}
 use Rattle.sccs_group_command.proofs.EntryEnds.{bad_outcome}
-use Rattle.sccs_group_command.specs.GroupCourses.{group_parts, parts_by, refused_parts}
+use Rattle.sccs_group_command.specs.GroupStepLists.{group_parts, parts_by, refused_parts}
 
 -- ---- entries that are accepted
 

@@ -1,7 +1,7 @@
 -- Some first of the new files of a group are those of its steps, in the order of a commit.
 use Rattle.std.proofs.Common.{◌≡◌, ℕ, zero, suc, Bool, false, cond, List, [], ◌∷◌, map, Option, None, Some, refl, sym, ap, subst, ◌∙◌}
 use Rattle.std.specs.Str.{bytes_eq}
-use Rattle.sccs_base.specs.Name.{IsSfile, p_file, x_file, y_file}
+use Rattle.sccs_base.specs.Name.{IsSFileName, p_file, x_file, y_file}
 use Rattle.sccs_disk.specs.Files.{Content, View, put}
 use Rattle.sccs_disk.specs.Told.{Shows}
 use Rattle.sccs_disk.proofs.Puts.{put_other}
@@ -44,7 +44,7 @@ count_of (suc (suc (suc (suc some)))) = 4
 one_at : (x : PreparedEntry) (w : View) (k : List ℕ) → IsDeltaPlan x.prepared → IsReady x.name x.prepared (Shows w) → is_left x.name k ≡ false → part_placed 1 (member_of x) w k ≡ put w x.name (files_after x.name (plan_of x.prepared) w).s k
 one_at x w k kind ready h = ap (λ (v : View). v k) (s_taken x.name w x.prepared.new_s kind.s ready.s) ∙ first_is x.name (plan_of x.prepared) w k (no_working x.name k h)
 
-two_at : (x : PreparedEntry) (w : View) (k : List ℕ) → IsSfile x.name → IsDeltaPlan x.prepared → IsReady x.name x.prepared (Shows w) → is_left x.name k ≡ false
+two_at : (x : PreparedEntry) (w : View) (k : List ℕ) → IsSFileName x.name → IsDeltaPlan x.prepared → IsReady x.name x.prepared (Shows w) → is_left x.name k ≡ false
     → part_placed 2 (member_of x) w k ≡ put (put w x.name (files_after x.name (plan_of x.prepared) w).s) (p_file x.name) (files_after x.name (plan_of x.prepared) w).p k
 two_at x w k sfile kind ready h =
     let n : List ℕ = x.name in
@@ -60,7 +60,7 @@ behind_l : (x : PreparedEntry) (w : View) (k : List ℕ)
 behind_l x w k =
     ap (λ (o : Option Content). cond (bytes_eq (p_file x.name) k) (files_after x.name (plan_of x.prepared) w).p (cond (bytes_eq x.name k) (files_after x.name (plan_of x.prepared) w).s o)) (sym (l_stays x.name w k))
 
-part_at : (some : ℕ) (x : PreparedEntry) (w : View) (k : List ℕ) → IsSfile x.name → IsDeltaPlan x.prepared → IsReady x.name x.prepared (Shows w) → is_left x.name k ≡ false
+part_at : (some : ℕ) (x : PreparedEntry) (w : View) (k : List ℕ) → IsSFileName x.name → IsDeltaPlan x.prepared → IsReady x.name x.prepared (Shows w) → is_left x.name k ≡ false
     → part_placed some (member_of x) w k ≡ first_moved (count_of some) w x.name (Some (files_after x.name (plan_of x.prepared) w)) k
 part_at zero x w k sfile kind ready h = refl
 part_at (suc zero) x w k sfile kind ready h =

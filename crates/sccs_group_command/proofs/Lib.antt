@@ -5,7 +5,7 @@ mod Completed
 pub mod EntryEnds
 mod Firms
 mod GroupCause
-pub mod GroupCourses
+pub mod GroupStepLists
 pub mod GroupEnds
 mod GroupFiles
 mod GroupNames

@@ -3,7 +3,7 @@ use Rattle.std.proofs.Common.{◌≡◌, ◌+◌, ℕ, zero, suc, false, List, [
 use Rattle.std.specs.Prelude.{is_some}
 use Rattle.std.specs.List.{AllByRecursion}
 use Rattle.std.specs.Str.{bytes_eq}
-use Rattle.sccs_base.specs.Name.{IsSfile, z_file}
+use Rattle.sccs_base.specs.Name.{IsSFileName, z_file}
 use Rattle.sccs_sid.specs.declared.moments.Stamp.{Stamp}
 use Rattle.sccs_disk.specs.Files.{Content, Model, View, view_of}
 use Rattle.sccs_disk.specs.Images.{Allows}
@@ -13,7 +13,7 @@ use Rattle.sccs_name_files.proofs.Images.{view_image}
 use Rattle.sccs_name_files.proofs.Touched.{only_wider}
 use Rattle.sccs_name_files.specs.StepFiles.{is_early, is_left}
 use Rattle.sccs_crash_points.specs.Calm.{IsCalm, KeepsPairs}
-use Rattle.sccs_crash_points.specs.Moments.{EndsBefore}
+use Rattle.sccs_crash_points.specs.CrashPoints.{EndsBefore}
 use Rattle.sccs_crash_points.specs.Recovery.{IsSound}
 use Rattle.sccs_crash_points.specs.Unlocked.{KeepsOthers}
 use Rattle.sccs_crash_points.proofs.FileNames.{early_left, no_z}
@@ -41,7 +41,7 @@ one_model t m m2 past past2 a b = let same : Tells m past ≡ Tells m2 past2 = s
 pub keeps_at : (v : View) (m m1 : Model) (past past1 : List Model) (b : Told) → EndsBefore v m past b → b ≡ Tells m1 past1 → KeepsPairs v (view_of m1)
 keeps_at v m m1 past past1 b ends is = subst (λ (x : Model). KeepsPairs v (view_of x)) (one_model b (newest ends.0.added m) m1 (earlier ends.0.added m past) past1 ends.0.is is) (keeps_now v m past b ends)
 
-sound_at : (n : List ℕ) (v : View) (m m1 : Model) (past past1 : List Model) (b : Told) → IsSfile n → EndsBefore v m past b → b ≡ Tells m1 past1 → IsSound n v → IsSound n (view_of m1)
+sound_at : (n : List ℕ) (v : View) (m m1 : Model) (past past1 : List Model) (b : Told) → IsSFileName n → EndsBefore v m past b → b ≡ Tells m1 past1 → IsSound n v → IsSound n (view_of m1)
 sound_at n v m m1 past past1 b sfile ends is sound = let keeps = keeps_at v m m1 past past1 b ends is in sound_kept n v (view_of m1) sound keeps.intent (keeps.pairs n sfile)
 
 -- ---- one name
@@ -53,7 +53,7 @@ same_loses names a b same = λ m past is calm sound. same_before m past b calm (
 left_early : (n : List ℕ) (a b : Told) → TouchesOnly (is_left n) a b → KeepsOthers (is_early n) a b
 left_early n a b touches = others_wider (is_left n) (is_early n) a b (early_left n) (others_touched (is_left n) a b touches)
 
-failed_before : (n : List ℕ) (a b : Told) (m : Model) (past : List Model) (z : Option Content) → view_of m (z_file n) ≡ z → IsSfile n → TouchesOnly (bytes_eq (z_file n)) a b → KeepsHeld n a b → a ≡ Tells m past → IsCalm m → (view_of m (z_file n) ≡ None → IsSound n (view_of m))
+failed_before : (n : List ℕ) (a b : Told) (m : Model) (past : List Model) (z : Option Content) → view_of m (z_file n) ≡ z → IsSFileName n → TouchesOnly (bytes_eq (z_file n)) a b → KeepsHeld n a b → a ≡ Tells m past → IsCalm m → (view_of m (z_file n) ≡ None → IsSound n (view_of m))
     → EndsBefore (view_of m) m past b
 failed_before n a b m past None z sfile touches held is calm sound = ends_before n a b m past sfile is calm (sound z) (left_early n a b (only_wider (bytes_eq (z_file n)) (is_left n) a b (no_z n) touches))
 failed_before n a b m past (Some c) z sfile touches held is calm sound = held m past is calm (ap is_some z)
@@ -80,7 +80,7 @@ picked_at (a ∷ made) (suc i) x rest is = λ v all. picked_at made i x rest is 
 pub none_loses : (names : List (List ℕ)) (a : Told) → LosesOfSound names a a
 none_loses names a = λ m past is calm sound. same_before m past a calm is
 
-pub sound_next : (made : List PreparedEntry) (n : List ℕ) (a b d : Told) → ArePicked made n → IsSfile n → LosesOfSound (made_names made) a b → TouchesOnly (is_left n) b d → LosesOfSound (made_names made) a d
+pub sound_next : (made : List PreparedEntry) (n : List ℕ) (a b d : Told) → ArePicked made n → IsSFileName n → LosesOfSound (made_names made) a b → TouchesOnly (is_left n) b d → LosesOfSound (made_names made) a d
 sound_next made n a b d pick sfile first touches = λ m past is calm sound.
     let ends = first m past is calm sound in
     before_then b d m past ends (λ m1 past1 is1 calm1. ends_before n b d m1 past1 sfile is1 calm1 (sound_at n (view_of m) m m1 past past1 b sfile ends is1 (pick (view_of m) sound)) (left_early n b d touches))
@@ -127,7 +127,7 @@ front_free [] (suc i) v all = tt
 front_free (a ∷ es) zero v all = tt
 front_free (a ∷ es) (suc i) v all = (all.0, front_free es i v all.1)
 
-pub all_sound_at : (names : List (List ℕ)) (v : View) (m m1 : Model) (past past1 : List Model) (b : Told) → AllByRecursion IsSfile names → EndsBefore v m past b → b ≡ Tells m1 past1 → AllByRecursion (λ (k : List ℕ). IsSound k v) names
+pub all_sound_at : (names : List (List ℕ)) (v : View) (m m1 : Model) (past past1 : List Model) (b : Told) → AllByRecursion IsSFileName names → EndsBefore v m past b → b ≡ Tells m1 past1 → AllByRecursion (λ (k : List ℕ). IsSound k v) names
     → AllByRecursion (λ (k : List ℕ). IsSound k (view_of m1)) names
 all_sound_at [] v m m1 past past1 b sfiles ends is sound = tt
 all_sound_at (n ∷ names) v m m1 past past1 b sfiles ends is sound = (sound_at n v m m1 past past1 b sfiles.0 ends is sound.0, all_sound_at names v m m1 past past1 b sfiles.1 ends is sound.1)

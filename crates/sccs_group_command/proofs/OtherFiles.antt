@@ -2,7 +2,7 @@
 use Rattle.std.proofs.Common.{◌≡◌, ◌&&◌, ℕ, false, List, [], ◌∷◌, drop, map, Option, None, Some, IfSome, Ok, inl, refl, sym, subst}
 use Rattle.std.specs.List.{AllByRecursion, list_any}
 use Rattle.std.specs.Str.{bytes_eq}
-use Rattle.sccs_base.specs.Name.{IsSfile, p_file}
+use Rattle.sccs_base.specs.Name.{IsSFileName, p_file}
 use Rattle.sccs_sid.specs.declared.moments.Stamp.{Stamp}
 use Rattle.sccs_disk.specs.Files.{View}
 use Rattle.sccs_disk.specs.Told.{Told, seen}
@@ -90,7 +90,7 @@ free_others made items names a b d same are touches kept =
 
 -- ---- locks
 
-any_left_s : (names : List (List ℕ)) (k : List ℕ) → IsSfile k → is_any_left names k ≡ false
+any_left_s : (names : List (List ℕ)) (k : List ℕ) → IsSFileName k → is_any_left names k ≡ false
 any_left_s [] k sfile = refl
 any_left_s (n ∷ names) k sfile = or_from _ _ (left_s n k sfile) (any_left_s names k sfile)
 

@@ -4,7 +4,7 @@ use Rattle.std.proofs.lemmas.List.{map-append}
 use Rattle.std.proofs.lemmas.List.Folds.{list_any-append}
 use Rattle.std.specs.List.{AllByRecursion}
 use Rattle.std.specs.Str.{bytes_eq}
-use Rattle.sccs_base.specs.Name.{IsSfile, is_sfile_name, p_file, q_file, x_file, y_file}
+use Rattle.sccs_base.specs.Name.{IsSFileName, is_sfile_name, p_file, q_file, x_file, y_file}
 use Rattle.sccs_base.proofs.SameBytes.{bytes_eq_sym}
 use Rattle.sccs_sid.specs.declared.moments.Stamp.{Stamp}
 use Rattle.sccs_disk.specs.Files.{Content, View}
@@ -146,12 +146,12 @@ AreHeld u v made = AllByRecursion (λ (x : PreparedEntry). IsHeldEntry u v x.nam
 abbrev pub AreSame : View → View → List PreparedEntry → Type 0
 AreSame v w made = AllByRecursion (λ (x : PreparedEntry). SameFiles x.name v w) made
 
-pub held_sfiles : (u v : View) (made : List PreparedEntry) → AreHeld u v made → AllByRecursion IsSfile (made_names made)
+pub held_sfiles : (u v : View) (made : List PreparedEntry) → AreHeld u v made → AllByRecursion IsSFileName (made_names made)
 held_sfiles u v [] held = tt
 held_sfiles u v (x ∷ made) held = (held.0.sfile, held_sfiles u v made held.1)
 
 -- another name's left files are none of theirs
-all_same : (made : List PreparedEntry) (n : List ℕ) (u v w : View) → IsSfile n → is_among (made_names made) n ≡ false → ArePlain (made_names made) → AreHeld u v made → Alike (is_left n) w v → AreSame v w made
+all_same : (made : List PreparedEntry) (n : List ℕ) (u v w : View) → IsSFileName n → is_among (made_names made) n ≡ false → ArePlain (made_names made) → AreHeld u v made → Alike (is_left n) w v → AreSame v w made
 all_same [] n u v w sfile apart plain held alike = tt
 all_same (x ∷ made) n u v w sfile apart plain held alike =
     (same_files (is_left n) x.name v w (outside_one n x.name sfile held.0.sfile (bytes_eq_sym n x.name ∙ left_false _ _ apart) plain.0) alike, all_same made n u v w sfile (right_false _ _ apart) plain.1 held.1 alike)
@@ -187,7 +187,7 @@ left_behind [] x v t = refl
 left_behind (y ∷ made) x v t = left_behind made x v (moved t y.name (Some (files_in v t y)))
 
 -- they leave the files of another name, but for its l-file
-left_agrees : (made : List PreparedEntry) (n : List ℕ) (v t : View) → IsSfile n → is_among (made_names made) n ≡ false → IsPlainName n → ArePlain (made_names made) → AllByRecursion IsSfile (made_names made) → AgreeButL n t (left_in v t made)
+left_agrees : (made : List PreparedEntry) (n : List ℕ) (v t : View) → IsSFileName n → is_among (made_names made) n ≡ false → IsPlainName n → ArePlain (made_names made) → AllByRecursion IsSFileName (made_names made) → AgreeButL n t (left_in v t made)
 left_agrees [] n v t sfile apart plain plains sfiles = record { s = refl; p = refl; z = refl; g = refl }
 left_agrees (x ∷ made) n v t sfile apart plain plains sfiles =
     let same : SameFiles n t (moved t x.name (Some (files_in v t x))) = files_elsewhere x.name n t (files_in v t x) refl sfiles.0 sfile (left_false _ _ apart) plains.0 plain in
@@ -216,13 +216,13 @@ none_yet stamp entries None = tt
 none_yet stamp entries (Some u) = record { steps = put_none (entry_steps stamp u entries); names_are = refl; held = tt; view = λ k h. refl }
 
 -- what the next entry's step sees
-pub same_next : (stamp : Stamp) (made : List PreparedEntry) (e : GroupEntry) (u v : View) → IsSfile e.name → is_among (made_names made) e.name ≡ false → IsPlainName e.name → AreHeld u v made → Alike (is_any_left (made_names made)) v u
+pub same_next : (stamp : Stamp) (made : List PreparedEntry) (e : GroupEntry) (u v : View) → IsSFileName e.name → is_among (made_names made) e.name ≡ false → IsPlainName e.name → AreHeld u v made → Alike (is_any_left (made_names made)) v u
     → SameFiles e.name u v
 same_next stamp made e u v sfile apart plain held alike = same_files (is_any_left (made_names made)) e.name u v (outside_any (made_names made) e.name (held_sfiles u v made held) sfile apart plain) alike
 
 -- the next entry's step, in the view that the steps before it leave: it is that of the view in which they are prepared, but for the
 -- l-file that it passes on
-pub next_outcome : (stamp : Stamp) (made : List PreparedEntry) (e : GroupEntry) (u v : View) → (is_sfile_name e.name ≡ true → IsSfile e.name) → is_among (made_names made) e.name ≡ false → IsPlainName e.name → ArePlain (made_names made) → AreHeld u v made
+pub next_outcome : (stamp : Stamp) (made : List PreparedEntry) (e : GroupEntry) (u v : View) → (is_sfile_name e.name ≡ true → IsSFileName e.name) → is_among (made_names made) e.name ≡ false → IsPlainName e.name → ArePlain (made_names made) → AreHeld u v made
     → Alike (is_any_left (made_names made)) v u → entry_outcome stamp (left_in v u made) e ≡ with_l (left_in v u made (l_file e.name)) (entry_outcome stamp v e)
 next_outcome stamp made e u v sfile apart plain plains held alike =
     entry_keeps_l stamp e v (left_in v u made)
@@ -246,7 +246,7 @@ next_steps stamp made x rest u v w same =
     ∙ ap (λ (t : View). put_all (steps_in v u made ++ step_with x (files_in w t x) ∷ []) (entry_steps stamp (moved t x.name (Some (files_in w t x))) rest)) (left_same made v w u same)))
 
 -- the next entry is prepared
-pub prepared_next : (stamp : Stamp) (entries : List GroupEntry) (i : ℕ) (made : List PreparedEntry) (e : GroupEntry) (p : Prepared) (u v w : View) → (is_sfile_name e.name ≡ true → IsSfile e.name) → AreDifferent (names_of entries) → ArePlain (names_of entries)
+pub prepared_next : (stamp : Stamp) (entries : List GroupEntry) (i : ℕ) (made : List PreparedEntry) (e : GroupEntry) (p : Prepared) (u v w : View) → (is_sfile_name e.name ≡ true → IsSFileName e.name) → AreDifferent (names_of entries) → ArePlain (names_of entries)
     → drop i entries ≡ e ∷ drop (i + 1) entries → take (i + 1) entries ≡ take i entries ++ e ∷ [] → SoFar stamp entries i made u v → IsPreparedEntry v w e.name p (entry_outcome stamp v e)
     → SoFar stamp entries (i + 1) (made ++ record { name = e.name; prepared = p } ∷ []) u w
 prepared_next stamp entries i made e p u v w fits different plain at more far one =

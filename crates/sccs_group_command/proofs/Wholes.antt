@@ -1,7 +1,7 @@
 -- A group is whole or not at all, wherever it is stopped.
 use Rattle.std.proofs.Common.{◌≡◌, ◌≢◌, ℕ, Bool, true, false, List, [], ◌∷◌, ◌++◌, map, is_some, Option, None, Some, IfSome, IsSome, Result, Ok, Err, inl, inr, refl, sym, ap, subst, ◌∙◌, ⊎_elim}
 use Rattle.std.specs.List.{AllByRecursion}
-use Rattle.sccs_base.specs.Name.{IsSfile, p_file, q_file, x_file}
+use Rattle.sccs_base.specs.Name.{IsSFileName, p_file, q_file, x_file}
 use Rattle.sccs_sid.specs.declared.moments.Stamp.{Stamp}
 use Rattle.sccs_sid.specs.declared.refusals.StepFault.{StepFault}
 use Rattle.sccs_sid.specs.declared.refusals.StepFault.TheVariants.{Refused, Memory, ReadFault, WriteFault, DiskFault}
@@ -13,7 +13,7 @@ use Rattle.sccs_name_files.specs.Touches.{Each, Leaves, Touches, Touching, Touch
 use Rattle.sccs_name_files.proofs.Touched.{earlier_more, newest_more}
 use Rattle.sccs_intents.specs.Intents.{intent_file}
 use Rattle.sccs_crash_points.specs.Calm.{IsCalm, KeepsPairs}
-use Rattle.sccs_crash_points.specs.Moments.{EndsAfter, EndsBefore, EndsWithin, Stays}
+use Rattle.sccs_crash_points.specs.CrashPoints.{EndsAfter, EndsBefore, EndsWithin, Stays}
 use Rattle.sccs_crash_points.specs.Recovery.{IsSettledPair, IsSound, RecoversAs, fated, newer, IsHeldAt}
 use Rattle.sccs_crash_points.proofs.CalmDisks.{calm_firm}
 use Rattle.sccs_crash_points.proofs.Joined.{numbered_now, numbered_zero, each_then, each_by}
@@ -47,7 +47,7 @@ use Rattle.sccs_group.proofs.Committing.{is_plan, plan_recovers}
 use Rattle.sccs_group.proofs.Groups.{before_then, group_after, group_within, members_written, moved_intent, views_recover}
 use Rattle.sccs_group_command.specs.declared.entries.GroupEntry.{GroupEntry}
 use Rattle.sccs_group_command.specs.GroupStep.{entry_steps, group_step, names_of}
-use Rattle.sccs_group_command.specs.Making.{CommitMoments, GroupMoments, HoldsFrom, HoldsNames, StopsAt, fate_of, member_of}
+use Rattle.sccs_group_command.specs.Making.{CommitCrashPoints, GroupCrashPoints, HoldsFrom, HoldsNames, StopsAt, fate_of, member_of}
 use Rattle.sccs_group_command.specs.Preparing.{AreFirm, AreGrouped, AreMade, ArePlain, Between, GivesAllBack, IsHeldEntry, IsNamed, IsPlainName, LosesNothing, LosesOfSound, PreparesAll, files_in, made_names}
 use Rattle.sccs_group_command.specs.declared.prepared_entries.NamedFault.{NamedFault}
 use Rattle.sccs_group_command.specs.declared.prepared_entries.PreparedEntry.{PreparedEntry}
@@ -88,28 +88,28 @@ plan_loses names a b d named touches back = λ m past is calm sound.
     let ends : EndsBefore (view_of m) m past b = plan_before a b m past is calm touches in
     before_then b d m past ends (λ m1 past1 is1 calm1. back m1 past1 is1 calm1 (all_sound_at names (view_of m) m m1 past past1 b (sfiles names named) ends is1 sound))
   where
-    sfiles : (ns : List (List ℕ)) → AllByRecursion IsNamed ns → AllByRecursion IsSfile ns
+    sfiles : (ns : List (List ℕ)) → AllByRecursion IsNamed ns → AllByRecursion IsSFileName ns
     sfiles [] all = tt
     sfiles (n ∷ ns) all = (all.0.1, sfiles ns all.1)
 
 -- memory was wanting
-pub memory_moments : (r : StepFault) (names : List (List ℕ)) (made : List PreparedEntry) (o o2 : Option View) (a b : Told) → GivesAllBack r Memory names o o2 → LosesOfSound (made_names made) a b → CommitMoments (Err r) made a b
-memory_moments r names made o o2 a b (inl back) loses = subst (λ (f : StepFault). CommitMoments (Err f) made a b) (sym back.0) loses
-memory_moments r names made o o2 a b (inr broken) loses = subst (λ (f : StepFault). CommitMoments (Err f) made a b) (sym broken.0) (inr loses)
+pub memory_crash_points : (r : StepFault) (names : List (List ℕ)) (made : List PreparedEntry) (o o2 : Option View) (a b : Told) → GivesAllBack r Memory names o o2 → LosesOfSound (made_names made) a b → CommitCrashPoints (Err r) made a b
+memory_crash_points r names made o o2 a b (inl back) loses = subst (λ (f : StepFault). CommitCrashPoints (Err f) made a b) (sym back.0) loses
+memory_crash_points r names made o o2 a b (inr broken) loses = subst (λ (f : StepFault). CommitCrashPoints (Err f) made a b) (sym broken.0) (inr loses)
 
 pub ends_by : (made : List PreparedEntry) (ms : List Member) (a b : Told) → ms ≡ map member_of made → GroupEnds ms a b → GroupEnds (map member_of made) a b
 ends_by made ms a b is ends = subst (λ (l : List Member). GroupEnds l a b) is ends
 
-pub stops_by : (made : List PreparedEntry) (ms : List Member) (a b : Told) → ms ≡ map member_of made → GroupStops ms a b → CommitMoments (Err DiskFault) made a b
+pub stops_by : (made : List PreparedEntry) (ms : List Member) (a b : Told) → ms ≡ map member_of made → GroupStops ms a b → CommitCrashPoints (Err DiskFault) made a b
 stops_by made ms a b is stops = inl (subst (λ (l : List Member). GroupStops l a b) is stops)
 
-pub reported_moments : (r : Result (Unit {0}) StepFault) (said : Prepared) (made : List PreparedEntry) (w w2 : World) (a b : Told) → Reports r said w w2 → GroupEnds (map member_of made) a b → CommitMoments r made a b
-reported_moments (Ok done) said made w w2 a b reports ends = ends
-reported_moments (Err WriteFault) said made w w2 a b reports ends = ends
-reported_moments (Err (Refused refusal)) said made w w2 a b reports ends = absurd reports
-reported_moments (Err Memory) said made w w2 a b reports ends = absurd reports
-reported_moments (Err ReadFault) said made w w2 a b reports ends = absurd reports
-reported_moments (Err DiskFault) said made w w2 a b reports ends = absurd reports
+pub reported_crash_points : (r : Result (Unit {0}) StepFault) (said : Prepared) (made : List PreparedEntry) (w w2 : World) (a b : Told) → Reports r said w w2 → GroupEnds (map member_of made) a b → CommitCrashPoints r made a b
+reported_crash_points (Ok done) said made w w2 a b reports ends = ends
+reported_crash_points (Err WriteFault) said made w w2 a b reports ends = ends
+reported_crash_points (Err (Refused refusal)) said made w w2 a b reports ends = absurd reports
+reported_crash_points (Err Memory) said made w w2 a b reports ends = absurd reports
+reported_crash_points (Err ReadFault) said made w w2 a b reports ends = absurd reports
+reported_crash_points (Err DiskFault) said made w w2 a b reports ends = absurd reports
 
 -- ---- a prepared entry as a member
 
@@ -332,7 +332,7 @@ module _ (stamp : Stamp) (entries : List GroupEntry) (made : List PreparedEntry)
   holds_within d commit =
       let later = commit (newest ends.0.added m) (earlier ends.0.added m past) ends.0.is (can m past is (newest ends.0.added m) (earlier ends.0.added m past) ends.0.is) in holds_commit d later.0.added later.0.is later.2
 
-  at_fault : (fault : StepFault) (d : Told) → CommitMoments (Err fault) made b d
+  at_fault : (fault : StepFault) (d : Told) → CommitCrashPoints (Err fault) made b d
       → StopsAt fault (view_of m) (all_moved (view_of m) (moves_of (group_step stamp (view_of m) entries))) m past d × HoldsNames m past d
   at_fault (Refused refusal) d commit = absurd commit
   at_fault Memory d commit = (before_group d commit, holds_before m past d none_at (before_group d commit))
@@ -342,14 +342,14 @@ module _ (stamp : Stamp) (entries : List GroupEntry) (made : List PreparedEntry)
   at_fault DiskFault d (inr back) = (inr (before_group d back), holds_before m past d none_at (before_group d back))
 
 -- committed and reported
-pub done_moments : (stamp : Stamp) (entries : List GroupEntry) (made : List PreparedEntry) (a b d : Told) (done : Unit {0}) → ArePreparedAll stamp entries made a b → CommitMoments (Ok done) made b d → GroupMoments (Ok done) (names_of entries) (of_group stamp entries) a d
-done_moments stamp entries made a b d done x commit = λ m past is calm free.
+pub done_crash_points : (stamp : Stamp) (entries : List GroupEntry) (made : List PreparedEntry) (a b d : Told) (done : Unit {0}) → ArePreparedAll stamp entries made a b → CommitCrashPoints (Ok done) made b d → GroupCrashPoints (Ok done) (names_of entries) (of_group stamp entries) a d
+done_crash_points stamp entries made a b d done x commit = λ m past is calm free.
     ((after_group stamp entries made a b x m past is calm free d commit, names_kept stamp entries made a b x m past is calm free), holds_after stamp entries made a b x m past is calm free d commit)
 
 -- the commit failed, or its report was cut
-pub failed_moments : (stamp : Stamp) (entries : List GroupEntry) (made : List PreparedEntry) (a b d : Told) (n : List ℕ) (fault : StepFault) → ArePreparedAll stamp entries made a b → CommitMoments (Err fault) made b d
-    → GroupMoments (Err (record { name = n; fault = fault })) (names_of entries) (of_group stamp entries) a d
-failed_moments stamp entries made a b d n fault x commit = λ m past is calm free. at_fault stamp entries made a b x m past is calm free fault d commit
+pub failed_crash_points : (stamp : Stamp) (entries : List GroupEntry) (made : List PreparedEntry) (a b d : Told) (n : List ℕ) (fault : StepFault) → ArePreparedAll stamp entries made a b → CommitCrashPoints (Err fault) made b d
+    → GroupCrashPoints (Err (record { name = n; fault = fault })) (names_of entries) (of_group stamp entries) a d
+failed_crash_points stamp entries made a b d n fault x commit = λ m past is calm free. at_fault stamp entries made a b x m past is calm free fault d commit
 
 -- ---- nothing was committed
 
@@ -360,6 +360,6 @@ stopped_at ReadFault v w m past d write loses = loses
 stopped_at WriteFault v w m past d write loses = absurd (write refl)
 stopped_at DiskFault v w m past d write loses = inr loses
 
-pub stopped_moments : (stop : NamedFault) (names : List (List ℕ)) (step : View → NamedStep) (a d : Told) → stop.fault ≢ WriteFault → HoldsBy names a d → LosesNothing names a d → GroupMoments (Err stop) names step a d
-stopped_moments stop names step a d write holds loses = λ m past is calm free.
+pub stopped_crash_points : (stop : NamedFault) (names : List (List ℕ)) (step : View → NamedStep) (a d : Told) → stop.fault ≢ WriteFault → HoldsBy names a d → LosesNothing names a d → GroupCrashPoints (Err stop) names step a d
+stopped_crash_points stop names step a d write holds loses = λ m past is calm free.
     (stopped_at stop.fault (view_of m) (all_moved (view_of m) (moves_of (step (view_of m)))) m past d write (loses m past is calm free), holds m past is calm free)

@@ -1,4 +1,4 @@
-pub mod GroupCourses
+pub mod GroupStepLists
 pub mod GroupStep
 pub mod GroupText
 pub mod LFiles

@@ -11,7 +11,7 @@ use Rattle.sccs_disk.specs.Files.{Content, Model, View, view_of}
 use Rattle.sccs_disk.specs.Images.{Allows}
 use Rattle.sccs_disk.specs.Told.{Told, Tells}
 use Rattle.sccs_name_files.specs.Touches.{Each, earlier, newest}
-use Rattle.sccs_base.specs.Name.{IsSfile}
+use Rattle.sccs_base.specs.Name.{IsSFileName}
 use Rattle.sccs_name_files.specs.StepFiles.{Alike, Moves}
 use Rattle.sccs_intents.specs.Intents.{intent_file, plan_file}
 use Rattle.sccs_intents.specs.declared.intents.Fate.{Fate}
@@ -24,7 +24,7 @@ use Rattle.sccs_steps.specs.StepLists.{NamedStep, all_moved, err_of, first_moves
 use Rattle.sccs_store.specs.declared.new_files.NewFile.{NewFile}
 use Rattle.sccs_store.specs.declared.new_files.NewFile.TheVariants.{Keep, Replace, Remove}
 use Rattle.sccs_crash_points.specs.Calm.{IsCalm}
-use Rattle.sccs_crash_points.specs.Moments.{EndsAfter, EndsBefore, EndsWithin}
+use Rattle.sccs_crash_points.specs.CrashPoints.{EndsAfter, EndsBefore, EndsWithin}
 use Rattle.sccs_crash_points.specs.Recovery.{without_name, IsHeldAt}
 use Rattle.sccs_crash_points.specs.Unlocked.{is_own}
 use Rattle.sccs_store.specs.Commits.{Becomes}
@@ -173,13 +173,13 @@ MeetsGroup (Err stop) names step a b = StopMeets stop.fault stop.name names (sfi
 -- ---- what a stop leaves
 
 -- where committing prepared entries and reporting them ends
-abbrev pub CommitMoments : Result (Unit {0}) StepFault → List PreparedEntry → Told → Told → Type 0
-CommitMoments (Ok done) made old new = GroupEnds (map member_of made) old new
-CommitMoments (Err WriteFault) made old new = GroupEnds (map member_of made) old new
-CommitMoments (Err DiskFault) made old new = GroupStops (map member_of made) old new ⊎ LosesOfSound (made_names made) old new
-CommitMoments (Err Memory) made old new = LosesOfSound (made_names made) old new
-CommitMoments (Err ReadFault) made old new = ⊥
-CommitMoments (Err (Refused refusal)) made old new = ⊥
+abbrev pub CommitCrashPoints : Result (Unit {0}) StepFault → List PreparedEntry → Told → Told → Type 0
+CommitCrashPoints (Ok done) made old new = GroupEnds (map member_of made) old new
+CommitCrashPoints (Err WriteFault) made old new = GroupEnds (map member_of made) old new
+CommitCrashPoints (Err DiskFault) made old new = GroupStops (map member_of made) old new ⊎ LosesOfSound (made_names made) old new
+CommitCrashPoints (Err Memory) made old new = LosesOfSound (made_names made) old new
+CommitCrashPoints (Err ReadFault) made old new = ⊥
+CommitCrashPoints (Err (Refused refusal)) made old new = ⊥
 
 -- where a group ends that failed, whose step leads from v to w; names that were safe in v are so in w
 abbrev pub StopsAt : StepFault → View → View → Model → List Model → Told → Type 0
@@ -195,7 +195,7 @@ EndsAt (Err stop) v w m past new = StopsAt stop.fault v w m past new
 
 -- so it is of each name of which it is so in whatever a stop may leave of the model
 abbrev pub HoldsFrom : Model → View → Type 0
-HoldsFrom m v = (n : List ℕ) → IsSfile n → Allows (IsHeldAt n) m → IsHeldAt n v
+HoldsFrom m v = (n : List ℕ) → IsSFileName n → Allows (IsHeldAt n) m → IsHeldAt n v
 
 -- The story went on from a model, and so it is of whatever a stop leaves at each moment.
 pub record HoldsNames (m : Model) (past : List Model) (new : Told) : Type 0 where
@@ -204,8 +204,8 @@ pub record HoldsNames (m : Model) (past : List Model) (new : Told) : Type 0 wher
   pub each : Each (Allows (HoldsFrom m)) added m
 
 -- from a calm disk on, where names are sound, a stop leaves the group whole or not at all, and the names of an intent held
-abbrev pub GroupMoments : Result (Unit {0}) NamedFault → List (List ℕ) → (View → NamedStep) → Told → Told → Type 0
-GroupMoments r names step old new = (m : Model) (past : List Model) → old ≡ Tells m past → IsCalm m → AllByRecursion (IsFreeSound (view_of m)) names
+abbrev pub GroupCrashPoints : Result (Unit {0}) NamedFault → List (List ℕ) → (View → NamedStep) → Told → Told → Type 0
+GroupCrashPoints r names step old new = (m : Model) (past : List Model) → old ≡ Tells m past → IsCalm m → AllByRecursion (IsFreeSound (view_of m)) names
     → EndsAt r (view_of m) (all_moved (view_of m) (moves_of (step (view_of m)))) m past new × HoldsNames m past new
 
 -- ---- other files

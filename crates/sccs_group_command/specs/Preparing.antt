@@ -2,7 +2,7 @@
 use Rattle.std.specs.Prelude.{◌≡◌, ◌≢◌, ◌<◌, ◌≤◌, ◌&&◌, length, ◌⊎◌, ℕ, Bool, false, true, List, [], ◌∷◌, ◌++◌, drop, map, Option, None, Some, Result, Ok, Err}
 use Rattle.std.specs.List.{AllByRecursion, filter, list_any}
 use Rattle.std.specs.Str.{bytes_eq}
-use Rattle.sccs_base.specs.Name.{IsName, IsSfile, is_sfile_name, z_file}
+use Rattle.sccs_base.specs.Name.{IsName, IsSFileName, is_sfile_name, z_file}
 use Rattle.sccs_base.specs.Stream.{Rose}
 use Rattle.sccs_sid.specs.declared.refusals.StepFault.{StepFault}
 use Rattle.sccs_sid.specs.declared.refusals.StepFault.TheVariants.{Refused, Memory, ReadFault, WriteFault, DiskFault}
@@ -12,7 +12,7 @@ use Rattle.sccs_name_files.specs.StepFiles.{Alike, Files, Moves, is_left, is_wor
 use Rattle.sccs_intents.specs.Intents.{plan_file}
 use Rattle.sccs_crash_points.specs.Recovery.{IsSound, begins_by_letter, is_kept}
 use Rattle.sccs_crash_points.specs.Calm.{IsCalm}
-use Rattle.sccs_crash_points.specs.Moments.{EndsBefore}
+use Rattle.sccs_crash_points.specs.CrashPoints.{EndsBefore}
 use Rattle.sccs_steps.specs.StepEffects.{Outcome, StepEffect}
 use Rattle.sccs_steps.specs.StepLists.{NamedStep, named_step}
 use Rattle.sccs_store.specs.Commits.{Becomes, abandoned, files_after}
@@ -57,7 +57,7 @@ ArePlain names = AllByRecursion IsPlainName names
 
 -- the name of an s-file
 abbrev pub IsNamed : List ℕ → Type 0
-IsNamed n = IsName n × IsSfile n
+IsNamed n = IsName n × IsSFileName n
 
 -- those of them that s-files may have
 abbrev pub sfiles_of : List (List ℕ) → List (List ℕ)
@@ -108,7 +108,7 @@ effect_by v n p = record { new = Some (files_after n (plan_of p) v); text = []; 
 -- What is prepared of a name that wasn't locked in u.
 pub record IsHeldEntry (u v : View) (n : List ℕ) (p : Prepared) : Type 0 where
   pub name : IsName n
-  pub sfile : IsSfile n
+  pub sfile : IsSFileName n
   pub kind : IsDeltaPlan p
   pub free : u (z_file n) ≡ None
   -- the z-file and the prepared files are there

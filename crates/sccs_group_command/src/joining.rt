@@ -6,7 +6,7 @@ use crate::prepared_entries::PreparedEntry;
 use sccs_base::{Bytes, Memory};
 use sccs_changes::{Prepared, heading};
 use sccs_group::{Member, Members};
-use sccs_intents::{Entry, Fate};
+use sccs_intents::{Fate, IntentEntry};
 use sccs_store::NewFile;
 use std::alloc::Global;
 
@@ -35,7 +35,7 @@ fn member_of(entry: &PreparedEntry) -> Member
     ensures { result ≡ member_of entry.now }
 {
     Member {
-        entry: Entry {
+        entry: IntentEntry {
             name: entry.name,
             fate: fate_of(entry.prepared.new_p),
         },

@@ -1,6 +1,6 @@
 //! The input of a group: delta commands of different names, each with its script.
 //! The step of a group: its deltas are prepared one after the other, and committed together.
-//! A group as a course that a call follows: its input, and the step of all its entries.
+//! A group as a list of steps that a call follows: its input, and the step of all its entries.
 #![tactic(auto)]
 
 mod entries;

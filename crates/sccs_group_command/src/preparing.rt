@@ -1,6 +1,6 @@
 ghost use Rattle.std.specs.Prelude.{◌≡◌, ◌⊎◌, ◌≤◌, ◌∷◌, [], Err, IfOk, OnErr, OnOk};
 ghost use Rattle.std.specs.List.{AllByRecursion};
-ghost use Rattle.sccs_base.specs.Name.{IsSfile};
+ghost use Rattle.sccs_base.specs.Name.{IsSFileName};
 ghost use Rattle.sccs_base.specs.Stream.{Rose};
 ghost use Rattle.sccs_disk.specs.Files.{View};
 ghost use Rattle.sccs_disk.specs.Told.{seen};
@@ -25,7 +25,7 @@ use std::alloc::Global;
 
 // takes away what was prepared of a name, and answers why; after a disk fault recovery does that
 fn give_up<D: Disk>(fault: StepFault, name: &Name, disk: &mut D) -> StepFault
-    requires { IsSfile name.now }
+    requires { IsSFileName name.now }
     ensures gives_back { GivesBack result fault name.now (seen (D.told disk.old)) (seen (D.told disk.new)) }
     ensures touches { TouchesOnly (is_left name.now) (D.told disk.old) (D.told disk.new) }
     ensures later { D.faults disk.old ≤ D.faults disk.new }

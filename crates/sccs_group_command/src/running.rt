@@ -2,7 +2,7 @@ ghost use Rattle.std.specs.Prelude.{◌≡◌, ◌≤◌, Err};
 ghost use Rattle.sccs_base.specs.Causes.{GivesText};
 ghost use Rattle.sccs_base.specs.Stream.{Rose};
 ghost use Rattle.sccs_step_lists.specs.QuietSettings.{quiet};
-ghost use Rattle.sccs_group_command.specs.GroupCourses.{RunsEntries, RunsGroup, RunsLines, SaysBad, bad_line};
+ghost use Rattle.sccs_group_command.specs.GroupStepLists.{RunsEntries, RunsGroup, RunsLines, SaysBad, bad_line};
 ghost use Rattle.sccs_group_command.specs.Preparing.{AreGrouped};
 ghost use Rattle.sccs_group_command.specs.GroupText.{group_of};
 ghost use Rattle.sccs_sid.specs.Moment.{IsMoment};

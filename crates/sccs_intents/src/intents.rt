@@ -14,13 +14,13 @@ pub enum Fate {
 
 /// An entry of an intent: the name of an s-file, and what becomes of its p-file.
 #[derive(Clone, Copy)]
-pub struct Entry {
+pub struct IntentEntry {
     pub name: Name,
     pub fate: Fate,
 }
 
 /// The entries of an intent, in their order.
-pub type Entries = ListOf<Entry>;
+pub type Entries = ListOf<IntentEntry>;
 
 /// Why an intent wasn't read: this line, from 1, isn't of its form; or want of memory.
 #[derive(Clone, Copy, Debug, PartialEq, Eq)]

@@ -6,7 +6,7 @@ mod laws;
 mod reading;
 mod writing;
 
-pub use intents::{Entries, Entry, Fate, IntentFault};
+pub use intents::{Entries, Fate, IntentEntry, IntentFault};
 pub use laws::{intents_are_read_again, thousand_entries_fit};
 pub use reading::read_intent;
 pub use writing::intent_text;

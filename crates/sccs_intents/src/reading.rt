@@ -2,7 +2,7 @@ ghost use Rattle.std.specs.Prelude.{◌≡◌, ◌+◌, [], length};
 ghost use Rattle.sccs_base.specs.Cut.{cut};
 ghost use Rattle.sccs_intents.specs.Intents.{AddsEntry, Reads, closed, closes, entries_at, entry_of, fate_of, has_name, intent_of};
 
-use crate::intents::{Entries, Entry, FIRST_LINE, Fate, IntentFault, LAST_LINE};
+use crate::intents::{Entries, FIRST_LINE, Fate, IntentEntry, IntentFault, LAST_LINE};
 use sccs_base::{FILE_LIMIT, LF, Name};
 use sccs_sid::reading::cut_at;
 use std::alloc::Global;
@@ -20,7 +20,7 @@ fn fate_of(letter: u8) -> Option<Fate>
 
 // the entry of a line
 #[tactic(auto, unfolding(crate::specs::Intents::entry_of))]
-fn read_entry(line: &[u8]) -> Option<Entry>
+fn read_entry(line: &[u8]) -> Option<IntentEntry>
     ensures { result ≡ entry_of line.now }
 {
     let [letter, b' ', name @ ..] = line else {
@@ -28,7 +28,7 @@ fn read_entry(line: &[u8]) -> Option<Entry>
     };
     let fate = fate_of(*letter)?;
     let name = Name::read_sfile(name)?;
-    Some(Entry { name, fate })
+    Some(IntentEntry { name, fate })
 }
 
 // whether some entry has the name

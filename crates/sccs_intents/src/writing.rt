@@ -1,7 +1,7 @@
 ghost use Rattle.std.specs.Prelude.{◌≡◌, ◌++◌, IfOk, OnOk};
 ghost use Rattle.sccs_intents.specs.Written.{ended, entry_text, intent_text, letter_of};
 
-use crate::intents::{Entries, Entry, FIRST_LINE, Fate, LAST_LINE};
+use crate::intents::{Entries, FIRST_LINE, Fate, IntentEntry, LAST_LINE};
 use sccs_base::{BLANK, Bytes, LF, ListOf, Memory};
 use std::alloc::Global;
 
@@ -25,7 +25,7 @@ fn put_line(text: &mut Vec<u8>, line: &[u8]) -> Result<(), Memory>
 }
 
 // puts the line of an entry
-fn put_entry(text: &mut Vec<u8>, entry: &Entry) -> Result<(), Memory>
+fn put_entry(text: &mut Vec<u8>, entry: &IntentEntry) -> Result<(), Memory>
     ensures { OnOk result (text.new.items ≡ text.old.items ++ entry_text entry.now) }
 {
     text.push(letter_of(entry.fate))?;

@@ -1,6 +1,6 @@
 ghost use Rattle.std.specs.Prelude.{◌≡◌, drop, option_map, unwrap_or};
 ghost use Rattle.std.specs.Option.{option_copied};
-ghost use Rattle.sccs_base.specs.Name.{IsSfile};
+ghost use Rattle.sccs_base.specs.Name.{IsSFileName};
 ghost use Rattle.sccs_flags.specs.FlagValues.{flag_of};
 ghost use Rattle.sccs_keywords.specs.VersionFacts.{flag_text, kind_flags, module_name, user};
 
@@ -19,7 +19,7 @@ fn flag_text<'a>(flags: &'a [Flag], letter: u8, otherwise: &'a [u8]) -> &'a [u8]
 
 /// The module's name: the text of the flag m, else the name of the s-file without `s.`. POSIX get, %M%.
 pub fn module_name<'a>(flags: &'a [Flag], name: &'a Name) -> &'a [u8]
-    requires { IsSfile name.now }
+    requires { IsSFileName name.now }
     ensures { result.now ≡ module_name flags.now name.now }
 {
     flag_text(flags, b'm', &name.bytes()[2..])

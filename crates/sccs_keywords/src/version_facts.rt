@@ -1,7 +1,7 @@
 ghost use Rattle.std.specs.Prelude.{◌≡◌, IfOk, IfSome};
 ghost use Rattle.std.specs.List.{AllByRecursion};
 ghost use Rattle.std.specs.Option.{option_copied};
-ghost use Rattle.sccs_base.specs.Name.{IsSfile};
+ghost use Rattle.sccs_base.specs.Name.{IsSFileName};
 ghost use Rattle.sccs_history.specs.History.{HasSpelling, IsSpelled};
 ghost use Rattle.sccs_sid.specs.Moment.{IsMoment};
 ghost use Rattle.sccs_keywords.specs.Expansion.{HasMoments};
@@ -72,7 +72,7 @@ pub fn facts_of(
     place: &Line,
     stamp: &Stamp,
 ) -> Result<Facts, Memory>
-    requires sfile { IsSfile name.now }
+    requires sfile { IsSFileName name.now }
     requires spelled { IsSpelled header.now }
     requires moment { IsMoment stamp.now.moment }
     ensures value { IfOk result (λ f. f ≡ facts_of header.now set.now target sid name.now place.now stamp.now) }

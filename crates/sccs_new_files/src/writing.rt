@@ -1,6 +1,6 @@
 ghost use Rattle.std.specs.Prelude.{◌≡◌, [], ◌++◌, Some, IfOk, IsErrOf, OnErr, OnOk};
 ghost use Rattle.std.specs.Str.{bytes_eq};
-ghost use Rattle.sccs_base.specs.Name.{IsSfile, x_file};
+ghost use Rattle.sccs_base.specs.Name.{IsSFileName, x_file};
 ghost use Rattle.sccs_disk.specs.Calls.{IsThere};
 ghost use Rattle.sccs_disk.specs.Files.{put};
 ghost use Rattle.sccs_disk.specs.Images.{IsFirm};
@@ -92,7 +92,7 @@ fn append_x<B: NewBody, D: Disk>(
     name: &Name,
     disk: &mut D,
 ) -> Result<Sum, DiskRefusal>
-    requires sfile { IsSfile name.now }
+    requires sfile { IsSFileName name.now }
     requires spelled { IsSpelled header.now }
     requires there { IsThere (x_file name.now) (D.told disk.old) }
     ensures appends { OnOk result (Appends (x_file name.now) (ended (sum_line 0) ++ header_bytes header.now
@@ -112,7 +112,7 @@ pub fn write_new<B: NewBody, D: Disk>(
     name: &Name,
     disk: &mut D,
 ) -> Result<(), DiskRefusal>
-    requires sfile { IsSfile name.now }
+    requires sfile { IsSFileName name.now }
     requires spelled { IsSpelled header.now }
     ensures view { OnOk result (Becomes (λ v. put v (x_file name.now) (Some (sealed header.now (B.items body.now))))
         (seen (D.told disk.old)) (seen (D.told disk.new))) }

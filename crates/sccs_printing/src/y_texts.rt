@@ -1,6 +1,6 @@
 ghost use Rattle.std.specs.Prelude.{◌≡◌, ◌≢◌, ◌≤◌, false, ℕ, List, [], Err, IfOk, IfSome, OnOk, Some};
 ghost use Rattle.std.specs.Str.{bytes_eq};
-ghost use Rattle.sccs_base.specs.Name.{IsSfile, y_file};
+ghost use Rattle.sccs_base.specs.Name.{IsSFileName, y_file};
 ghost use Rattle.sccs_base.specs.Stream.{Rose};
 ghost use Rattle.sccs_disk.specs.Calls.{IsThere};
 ghost use Rattle.sccs_disk.specs.Images.{IsFirm};
@@ -81,7 +81,7 @@ fn append_y<D: Disk>(
     form: &LineForm,
     disk: &mut D,
 ) -> Result<Shown, StepFault>
-    requires sfile { IsSfile name.now }
+    requires sfile { IsSFileName name.now }
     requires text { CanForm (line_form form.now) front.now.header.records }
     requires there { IsThere (y_file name.now) (D.told disk.old) }
     ensures frame { WritesText (y_file name.now) (D.told disk.old) (D.told disk.new) (D.faults disk.old) (D.faults disk.new) result }
@@ -111,7 +111,7 @@ pub fn make_y<D: Disk>(
     mode: Mode,
     disk: &mut D,
 ) -> Result<Shown, StepFault>
-    requires sfile { IsSfile name.now }
+    requires sfile { IsSFileName name.now }
     requires facts { IfSome (line_form form.now).facts HasMoments }
     requires table { Falls 65536 (serials_of front.now.header.records) }
     ensures view { (file : List ℕ) (items : List Item)

@@ -1,7 +1,7 @@
 -- What prs makes of its step.
 use Rattle.std.proofs.Common.{◌≡◌, ℕ, true, List, [], Option, None, Some, Result, Ok, Err, inl, refl, sym, ap, subst, ◌∙◌, arith}
 use Rattle.std.specs.Prelude.{IfSome}
-use Rattle.sccs_base.specs.Name.{IsSfile, is_sfile_name, sfile_name_decides}
+use Rattle.sccs_base.specs.Name.{IsSFileName, is_sfile_name, sfile_name_decides}
 use Rattle.sccs_base.proofs.Gifts.{gives_none, some_none}
 use Rattle.sccs_disk.specs.Files.{View}
 use Rattle.sccs_disk.specs.Told.{Told, seen}
@@ -88,5 +88,5 @@ as_step r i o o2 err d d2 causes = record {
   broke = causes.broke;
 }
 
-pub is_sfile : (n : List ℕ) → is_sfile_name n ≡ true → IsSfile n
+pub is_sfile : (n : List ℕ) → is_sfile_name n ≡ true → IsSFileName n
 is_sfile n is = ((sfile_name_decides n).0 is).1

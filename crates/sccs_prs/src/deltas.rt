@@ -1,5 +1,5 @@
 ghost use Rattle.std.specs.Prelude.{◌≡◌, ℕ, List, false, true};
-ghost use Rattle.sccs_base.specs.Name.{IsSfile};
+ghost use Rattle.sccs_base.specs.Name.{IsSFileName};
 ghost use Rattle.sccs_disk.specs.Told.{seen};
 ghost use Rattle.sccs_history.specs.Applied.{live_serials};
 ghost use Rattle.sccs_history.specs.History.{HasSpelling, IsTable};
@@ -107,7 +107,7 @@ fn put_part<O: Sink, D: Disk>(
     requires table { IsTable file.front.now.header.records }
     requires shown { IsShown file.front.now.header.records delta.now }
     requires facts { facts.now ≡ delta_facts file.front.now.header file.name.now file.place.now delta.now }
-    requires moments { HasMoments facts.now }
+    requires crash_points { HasMoments facts.now }
     ensures same { D.told disk.new ≡ D.told disk.old }
     ensures causes { PrintCauses result (O.faults out.old) (O.faults out.new) (D.faults disk.old) (D.faults disk.new) }
     ensures checks { RefusesWithin file_checks result }
@@ -136,7 +136,7 @@ fn put_parts<O: Sink, D: Disk>(
     requires table { IsTable file.front.now.header.records }
     requires shown { IsShown file.front.now.header.records delta.now }
     requires facts { facts.now ≡ delta_facts file.front.now.header file.name.now file.place.now delta.now }
-    requires moments { HasMoments facts.now }
+    requires crash_points { HasMoments facts.now }
     ensures same { D.told disk.new ≡ D.told disk.old }
     ensures causes { PrintCauses result (O.faults out.old) (O.faults out.new) (D.faults disk.old) (D.faults disk.new) }
     ensures checks { RefusesWithin file_checks result }
@@ -161,7 +161,7 @@ pub fn put_delta<O: Sink, D: Disk>(
     out: &mut O,
     disk: &mut D,
 ) -> Result<(), StepFault>
-    requires sfile { IsSfile file.name.now }
+    requires sfile { IsSFileName file.name.now }
     requires table { IsTable file.front.now.header.records }
     requires shown { IsShown file.front.now.header.records delta.now }
     ensures same { D.told disk.new ≡ D.told disk.old }

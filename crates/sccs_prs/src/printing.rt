@@ -1,6 +1,6 @@
 ghost use Rattle.std.specs.Prelude.{◌≡◌, ◌++◌, ℕ, List, []};
 ghost use Rattle.std.specs.List.{AllByRecursion};
-ghost use Rattle.sccs_base.specs.Name.{IsSfile};
+ghost use Rattle.sccs_base.specs.Name.{IsSFileName};
 ghost use Rattle.sccs_disk.specs.Told.{seen};
 ghost use Rattle.sccs_history.specs.History.{IsSpelled, IsTable};
 ghost use Rattle.sccs_history.specs.declared.headers.Item.{Item};
@@ -50,7 +50,7 @@ fn put_shown<O: Sink, D: Disk>(
     out: &mut O,
     disk: &mut D,
 ) -> Result<(), StepFault>
-    requires sfile { IsSfile file.name.now }
+    requires sfile { IsSFileName file.name.now }
     requires table { IsTable file.front.now.header.records }
     requires shown { IsShown file.front.now.header.records delta.now }
     ensures same { D.told disk.new ≡ D.told disk.old }
@@ -77,7 +77,7 @@ fn put_deltas<O: Sink, D: Disk>(
     out: &mut O,
     disk: &mut D,
 ) -> Result<(), StepFault>
-    requires sfile { IsSfile file.name.now }
+    requires sfile { IsSFileName file.name.now }
     requires table { IsTable file.front.now.header.records }
     requires spelled { IsSpelled file.front.now.header }
     ensures same { D.told disk.new ≡ D.told disk.old }
@@ -124,7 +124,7 @@ fn put_report<O: Sink, D: Disk>(
     out: &mut O,
     disk: &mut D,
 ) -> Result<(), StepFault>
-    requires sfile { IsSfile file.name.now }
+    requires sfile { IsSFileName file.name.now }
     requires table { IsTable file.front.now.header.records }
     requires spelled { IsSpelled file.front.now.header }
     ensures same { D.told disk.new ≡ D.told disk.old }
@@ -162,7 +162,7 @@ pub fn print_report<O: Sink, D: Disk>(
     out: &mut O,
     disk: &mut D,
 ) -> Result<(), StepFault>
-    requires sfile { IsSfile file.name.now }
+    requires sfile { IsSFileName file.name.now }
     requires table { IsTable file.front.now.header.records }
     requires spelled { IsSpelled file.front.now.header }
     ensures same { D.told disk.new ≡ D.told disk.old }

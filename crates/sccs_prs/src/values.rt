@@ -1,6 +1,6 @@
 ghost use Rattle.std.specs.Prelude.{◌≡◌, ◌≤◌, ◌∷◌, ◌++◌, [], decimal, drop, take, IfOk};
 ghost use Rattle.sccs_base.specs.Causes.{GivesText};
-ghost use Rattle.sccs_base.specs.Name.{IsSfile};
+ghost use Rattle.sccs_base.specs.Name.{IsSFileName};
 ghost use Rattle.sccs_keywords.specs.VersionFacts.{flag_text};
 ghost use Rattle.sccs_history.specs.History.{HasSpelling};
 ghost use Rattle.sccs_keywords.specs.Expansion.{HasMoments};
@@ -38,7 +38,7 @@ pub fn identification_facts(
     place: &Line,
     delta: &Record,
 ) -> Result<Facts, Memory>
-    requires sfile { IsSfile name.now }
+    requires sfile { IsSFileName name.now }
     requires spelled { HasSpelling delta.now }
     ensures value { IfOk result (λ f. f ≡ delta_facts header.now name.now place.now delta.now) }
     ensures valid { IfOk result HasMoments }
@@ -169,7 +169,7 @@ pub fn give_item<S: Sink>(
     out: &mut S,
 ) -> Result<(), Failed>
     requires spelled { HasSpelling delta.now }
-    requires moments { HasMoments facts.now }
+    requires crash_points { HasMoments facts.now }
     ensures { GivesText (item_text header.now facts.now delta.now item) (S.given out.old) (S.given out.new) (S.faults out.old) (S.faults out.new) result }
 {
     match item {

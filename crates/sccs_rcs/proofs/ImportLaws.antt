@@ -1,7 +1,7 @@
 -- What import prepares, from its two parts.
 use Rattle.std.proofs.Common.{◌≡◌, ℕ, Bool, List, [], ◌∷◌, drop, Option, None, Some, IfOk, IfSome, Result, Ok, Err, refl, sym, ap, subst, ◌∙◌}
 use Rattle.std.specs.Str.{bytes_eq}
-use Rattle.sccs_base.specs.Name.{IsSfile, p_file, q_file, x_file, y_file, z_file}
+use Rattle.sccs_base.specs.Name.{IsSFileName, p_file, q_file, x_file, y_file, z_file}
 use Rattle.sccs_base.proofs.Gifts.{gives_none}
 use Rattle.sccs_disk.specs.Calls.{IsThere}
 use Rattle.sccs_disk.specs.Files.{Content, View, put}
@@ -54,16 +54,16 @@ unfolding import_outcome
 outcome_of heading n i named f r is = ap (λ (found : Result Rcs Refusal). found >>= imports heading n f) is
 
 -- what was found, as the step sees it
-as_seen : (n : List ℕ) (v : View) (r : Result Rcs Refusal) → IsSfile n → found_rcs (unlocked n v (rcs_file n) ∷ []) (v n) ≡ r → found_rcs (unlocked n v (rcs_file n) ∷ []) (look (unlocked n v) n).s ≡ r
+as_seen : (n : List ℕ) (v : View) (r : Result Rcs Refusal) → IsSFileName n → found_rcs (unlocked n v (rcs_file n) ∷ []) (v n) ≡ r → found_rcs (unlocked n v (rcs_file n) ∷ []) (look (unlocked n v) n).s ≡ r
 as_seen n v r sfile is = ap (λ (o : Option Content). found_rcs (unlocked n v (rcs_file n) ∷ []) o) (s_unlocked n v sfile) ∙ is
 
-outcome_seen : (heading : Bool) (n i : List ℕ) (v : View) (r : Result Rcs Refusal) → IsSfile n → found_rcs (unlocked n v (rcs_file n) ∷ []) (v n) ≡ r
+outcome_seen : (heading : Bool) (n i : List ℕ) (v : View) (r : Result Rcs Refusal) → IsSFileName n → found_rcs (unlocked n v (rcs_file n) ∷ []) (v n) ≡ r
     → import_outcome heading n i (unlocked n v (rcs_file n) ∷ []) (look (unlocked n v) n) ≡ (r >>= imports heading n (look (unlocked n v) n))
 outcome_seen heading n i v r sfile is = outcome_of heading n i (unlocked n v (rcs_file n) ∷ []) (look (unlocked n v) n) r (as_seen n v r sfile is)
 
 -- ---- the trunk wasn't found
 
-not_found : (heading : Bool) (fault : StepFault) (n i : List ℕ) (v : View) (out err : Option (List ℕ)) → IsSfile n → AnswersRcs (found_rcs (unlocked n v (rcs_file n) ∷ []) (v n)) (Err fault)
+not_found : (heading : Bool) (fault : StepFault) (n i : List ℕ) (v : View) (out err : Option (List ℕ)) → IsSFileName n → AnswersRcs (found_rcs (unlocked n v (rcs_file n) ∷ []) (v n)) (Err fault)
     → Prepares (Err fault) n (import_outcome heading n i (unlocked n v (rcs_file n) ∷ []) (look (unlocked n v) n)) (world (Some v) out err) (world (Some v) out err)
 not_found heading (Refused refusal) n i v out err sfile answers = (outcome_seen heading n i v (Err refusal) sfile answers, unmade n [] v (Some v) out err (λ k h. refl))
 not_found heading Memory n i v out err sfile answers = unmade n _ v (Some v) out err (λ k h. refl)
@@ -71,7 +71,7 @@ not_found heading ReadFault n i v out err sfile answers = unmade n _ v (Some v) 
 not_found heading WriteFault n i v out err sfile answers = unmade n _ v (Some v) out err (λ k h. refl)
 not_found heading DiskFault n i v out err sfile answers = unmade n _ v (Some v) out err (λ k h. refl)
 
-pub find_fails : (heading : Bool) (fault : StepFault) (n : List ℕ) (left : Option (List ℕ)) (o o2 : Option View) (out err : Option (List ℕ)) → IsSfile n → o2 ≡ o → FindsRcs (Err fault) n o
+pub find_fails : (heading : Bool) (fault : StepFault) (n : List ℕ) (left : Option (List ℕ)) (o o2 : Option View) (out err : Option (List ℕ)) → IsSFileName n → o2 ≡ o → FindsRcs (Err fault) n o
     → PreparesChange (import_change heading) (Err fault) n left (world o out err) (world o2 out err)
 find_fails heading fault n left None o2 out err sfile same finds = tt
 find_fails heading fault n left (Some v) o2 out err sfile same finds = λ i heard.
@@ -80,7 +80,7 @@ find_fails heading fault n left (Some v) o2 out err sfile same finds = λ i hear
 
 -- ---- the x-file is written
 
-rcs_prepared : (heading : Bool) (r : Result Prepared StepFault) (rcs : Rcs) (n i : List ℕ) (v : View) (o2 : Option View) (out err : Option (List ℕ)) → IsSfile n → found_rcs (unlocked n v (rcs_file n) ∷ []) (v n) ≡ Ok rcs → WritesRcs r heading rcs n (Some v) o2
+rcs_prepared : (heading : Bool) (r : Result Prepared StepFault) (rcs : Rcs) (n i : List ℕ) (v : View) (o2 : Option View) (out err : Option (List ℕ)) → IsSFileName n → found_rcs (unlocked n v (rcs_file n) ∷ []) (v n) ≡ Ok rcs → WritesRcs r heading rcs n (Some v) o2
     → Prepares r n (import_outcome heading n i (unlocked n v (rcs_file n) ∷ []) (look (unlocked n v) n)) (world (Some v) out err) (world o2 out err)
 rcs_prepared heading (Ok p) rcs n i v o2 out err sfile found writes =
     let f : Files = look (unlocked n v) n in
@@ -102,7 +102,7 @@ rcs_prepared heading (Err ReadFault) rcs n i v o2 out err sfile found writes = u
 rcs_prepared heading (Err WriteFault) rcs n i v o2 out err sfile found writes = unmade n _ v o2 out err writes
 rcs_prepared heading (Err DiskFault) rcs n i v o2 out err sfile found writes = unmade n _ v o2 out err writes
 
-pub found_prepares : (heading : Bool) (r : Result Prepared StepFault) (rcs : Rcs) (n : List ℕ) (left : Option (List ℕ)) (o o1 o2 : Option View) (out err : Option (List ℕ)) → IsSfile n → o1 ≡ o → FindsRcs (Ok rcs) n o → WritesRcs r heading rcs n o1 o2
+pub found_prepares : (heading : Bool) (r : Result Prepared StepFault) (rcs : Rcs) (n : List ℕ) (left : Option (List ℕ)) (o o1 o2 : Option View) (out err : Option (List ℕ)) → IsSFileName n → o1 ≡ o → FindsRcs (Ok rcs) n o → WritesRcs r heading rcs n o1 o2
     → PreparesChange (import_change heading) r n left (world o out err) (world o2 out err)
 found_prepares heading r rcs n left None o1 o2 out err sfile same finds writes = tt
 found_prepares heading r rcs n left (Some v) o1 o2 out err sfile same finds writes = λ i heard.
@@ -151,7 +151,7 @@ imported_firm said n p a b is firm = let f = new_firm n (silent p) a b (as_new s
 
 -- ---- recovery
 
-pub rcs_settles : (heading : Bool) (r : Result Prepared StepFault) (rcs : Rcs) (n : List ℕ) (o : Option View) (a b : Told) → IsSfile n → seen a ≡ o → IfSome o (λ v. v n ≡ None) → WritesRcs r heading rcs n (seen a) (seen b) → IfOk r (λ p. SettlesEntries n p b)
+pub rcs_settles : (heading : Bool) (r : Result Prepared StepFault) (rcs : Rcs) (n : List ℕ) (o : Option View) (a b : Told) → IsSFileName n → seen a ≡ o → IfSome o (λ v. v n ≡ None) → WritesRcs r heading rcs n (seen a) (seen b) → IfOk r (λ p. SettlesEntries n p b)
 rcs_settles heading (Ok p) rcs n o a b sfile same fresh writes =
     settled_seen n (silent p) (rcs_content rcs) (seen a) (seen b) sfile (as_new (import_report heading n rcs) p writes.0) (subst (λ (x : Option View). IfSome x (λ v. v n ≡ None)) (sym same) fresh) writes.1
 rcs_settles heading (Err fault) rcs n o a b sfile same fresh writes = tt

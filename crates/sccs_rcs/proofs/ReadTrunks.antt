@@ -24,7 +24,7 @@ use Rattle.sccs_trunks.specs.declared.revisions.Rcs.{Rcs}
 use Rattle.sccs_trunks.specs.declared.revisions.Revision.{Revision}
 use Rattle.sccs_trunks.specs.declared.revisions.ScriptCommand.{ScriptCommand}
 use Rattle.sccs_trunks.specs.declared.revisions.ScriptCommand.TheVariants.{Delete, Add}
-use Rattle.sccs_rcs_file.specs.Forms.{DeltaText, Entry, RcsFile}
+use Rattle.sccs_rcs_file.specs.Forms.{DeltaText, RcsEntry, RcsFile}
 use Rattle.sccs_rcs_file.specs.Lookups.{one_named}
 use Rattle.sccs_rcs_file.specs.Reading.{file_of}
 use Rattle.sccs_rcs_file.specs.Tokens.{dot}
@@ -182,7 +182,7 @@ AreRead above x = IsRead above x.0
 
 facts_read : (above : Option Sid) (number : List ℕ) (file : RcsFile) → IfSome (facts_of above number file) (λ f. IsOnTrunk above f.sid)
 facts_read above number file =
-    then_any (λ (f : Facts). IsOnTrunk above f.sid) (one_named (λ (e : Entry). e.number) number file.entries) _ λ entry.
+    then_any (λ (f : Facts). IsOnTrunk above f.sid) (one_named (λ (e : RcsEntry). e.number) number file.entries) _ λ entry.
     then_any (λ (f : Facts). IsOnTrunk above f.sid) (one_named (λ (t : DeltaText). t.number) number file.texts) _ λ text.
     then_some (IsOnTrunk above) (λ (f : Facts). IsOnTrunk above f.sid) (trunk_sid above number) _ (sid_read above number) λ sid on.
     then_any (λ (f : Facts). IsOnTrunk above f.sid) (fields_of entry.phrases) _ λ fields. on

@@ -1,5 +1,5 @@
 ghost use Rattle.std.specs.Prelude.{◌≡◌, ◌≢◌, ◌≤◌, None, Err, IfOk, IfSome, OnOk};
-ghost use Rattle.sccs_base.specs.Name.{IsSfile};
+ghost use Rattle.sccs_base.specs.Name.{IsSFileName};
 ghost use Rattle.sccs_base.specs.Stream.{Rose};
 ghost use Rattle.sccs_disk.specs.Told.{seen};
 ghost use Rattle.sccs_sid.specs.declared.refusals.StepFault.TheVariants as fault;
@@ -26,7 +26,7 @@ pub enum Found {
 
 // the RCS file of a name
 fn rcs_name(alloc: Global, name: &Name) -> Result<Name, Memory>
-    requires { IsSfile name.now }
+    requires { IsSFileName name.now }
     ensures { IfOk result (λ file. file ≡ rcs_file name.now) }
 {
     let _bytes = name.bytes();
@@ -42,7 +42,7 @@ fn rcs_name(alloc: Global, name: &Name) -> Result<Name, Memory>
 
 // the bytes of the RCS file of a name
 fn read_file<D: Disk>(alloc: Global, name: &Name, disk: &mut D) -> Result<Found, StepFault>
-    requires { IsSfile name.now }
+    requires { IsSFileName name.now }
     ensures finds { FindsBytes result name.now (seen (D.told disk.old)) }
     ensures checks { RefusesWithin import_checks result }
     ensures frame { OnlyReads D.told D.faults disk.old disk.new result }
@@ -96,7 +96,7 @@ fn trunk_in(alloc: Global, found: &Found) -> Result<Rcs, StepFault>
 /// The trunk of the RCS file of a name that has no s-file yet. These checks are made in their order: the RCS file is there,
 /// the s-file isn't, the RCS file has at most 1,073,741,824 bytes, and a trunk.
 pub fn find_rcs<D: Disk>(alloc: Global, name: &Name, disk: &mut D) -> Result<Rcs, StepFault>
-    requires { IsSfile name.now }
+    requires { IsSFileName name.now }
     ensures finds { FindsRcs result name.now (seen (D.told disk.old)) }
     ensures free { OnOk result (IfSome (seen (D.told disk.old)) (λ v. v name.now ≡ None)) }
     ensures read { IfOk result IsRead }

@@ -1,6 +1,6 @@
 ghost use Rattle.std.specs.Prelude.{◌≡◌, ◌≢◌, ◌≤◌, Err, IfOk};
 ghost use Rattle.std.specs.Str.{bytes_eq};
-ghost use Rattle.sccs_base.specs.Name.{IsSfile, x_file};
+ghost use Rattle.sccs_base.specs.Name.{IsSFileName, x_file};
 ghost use Rattle.sccs_base.specs.Stream.{Rose};
 ghost use Rattle.sccs_disk.specs.Told.{seen};
 ghost use Rattle.sccs_name_files.specs.Touches.{TouchesOnly};
@@ -66,7 +66,7 @@ fn write_rcs<D: Disk>(
     name: &Name,
     disk: &mut D,
 ) -> Result<Prepared, StepFault>
-    requires sfile { IsSfile name.now }
+    requires sfile { IsSFileName name.now }
     requires read { IsRead rcs.now }
     ensures writes { WritesRcs result heading rcs.now name.now (seen (D.told disk.old)) (seen (D.told disk.new)) }
     ensures touches { TouchesOnly (bytes_eq (x_file name.now)) (D.told disk.old) (D.told disk.new) }

@@ -2,7 +2,7 @@
 use Rattle.std.proofs.Common.{◌≡◌, ℕ, Bool, true, false, cond, List, [], ◌∷◌, ◌++◌, codes, Option, None, Some, Result, Ok, Err, refl, sym, subst, ap, ◌∙◌, append-nil, append_assoc}
 use Rattle.std.specs.List.{AllByRecursion}
 use Rattle.std.proofs.lemmas.Bool.{false≢true}
-use Rattle.sccs_rcs_file.specs.Forms.{ArePhrases, AreViable, DeltaText, Entry, Fails, FailsAt, IsFile, Phrase, RcsFile, Spells, all_tokens, entries_tokens, file_tokens, phrases_tokens, texts_tokens, with_token}
+use Rattle.sccs_rcs_file.specs.Forms.{ArePhrases, AreViable, DeltaText, RcsEntry, Fails, FailsAt, IsFile, Phrase, RcsFile, Spells, all_tokens, entries_tokens, file_tokens, phrases_tokens, texts_tokens, with_token}
 use Rattle.sccs_rcs_file.specs.Reading.{State, by_state, by_token, file_of, is_end, read_on, start, step, with_text}
 use Rattle.sccs_rcs_file.specs.TokenValues.{Token, Number, Word, Quoted, Semicolon}
 use Rattle.sccs_rcs_file.specs.Tokens.{Lexeme, lexemes}
@@ -281,10 +281,10 @@ find_fault s came (l ∷ ls) left reached at_is are e =
 -- ---- each state can go on to a file
 
 -- an entry more, and a description and no text
-abbrev closed_front : List Phrase → List Entry → RcsFile
+abbrev closed_front : List Phrase → List RcsEntry → RcsFile
 closed_front head entries = record { head = head; entries = entries; description = []; texts = [] }
 
-front_viable : (tokens middle : List Token) (head : List Phrase) (entries : List Entry) → IsFile (closed_front head entries)
+front_viable : (tokens middle : List Token) (head : List Phrase) (entries : List RcsEntry) → IsFile (closed_front head entries)
     → phrases_tokens head ++ entries_tokens entries ≡ tokens ++ middle → AreViable tokens
 front_viable tokens middle head entries is whole =
     viable_by tokens (closed_front head entries) (middle ++ Word (codes "desc") ∷ Quoted [] ∷ []) is

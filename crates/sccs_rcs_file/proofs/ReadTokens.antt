@@ -3,7 +3,7 @@ use Rattle.std.proofs.Common.{◌≡◌, ℕ, Bool, true, false, cond, List, [],
 use Rattle.std.specs.List.{AllByRecursion}
 use Rattle.std.specs.Str.{bytes_eq}
 use Rattle.std.proofs.lemmas.Slice.Eq.{bytes_eq-Decides}
-use Rattle.sccs_rcs_file.specs.Forms.{ArePhrases, DeltaText, Entry, IsFile, IsPhrase, Phrase, RcsFile, entries_tokens, is_semicolon, phrases_tokens, texts_tokens}
+use Rattle.sccs_rcs_file.specs.Forms.{ArePhrases, DeltaText, RcsEntry, IsFile, IsPhrase, Phrase, RcsFile, entries_tokens, is_semicolon, phrases_tokens, texts_tokens}
 use Rattle.sccs_rcs_file.specs.Reading.{State, between, description_next, in_phrase, opened, step, step_at, with_entry, with_head}
 use Rattle.sccs_rcs_file.specs.TokenValues.{Token, Number, Word, Quoted, Semicolon, Colon}
 use Rattle.sccs_rcs_file.specs.declared.places.Place.{Place}
@@ -19,12 +19,12 @@ phrases_both (p ∷ a) b =
 pub phrases_more : (a : List Phrase) (name : List ℕ) (inside : List Token) → phrases_tokens (a ++ record { name = name; inside = inside } ∷ []) ≡ (phrases_tokens a ++ Word name ∷ inside) ++ Semicolon ∷ []
 phrases_more a name inside = phrases_both a (record { name = name; inside = inside } ∷ []) ∙ sym (append_assoc (phrases_tokens a) (Word name ∷ inside) (Semicolon ∷ []))
 
-entries_both : (a b : List Entry) → entries_tokens (a ++ b) ≡ entries_tokens a ++ entries_tokens b
+entries_both : (a b : List RcsEntry) → entries_tokens (a ++ b) ≡ entries_tokens a ++ entries_tokens b
 entries_both [] b = refl
 entries_both (e ∷ a) b =
     ap (λ l. Number e.number ∷ phrases_tokens e.phrases ++ l) (entries_both a b) ∙ ap (λ l. Number e.number ∷ l) (sym (append_assoc (phrases_tokens e.phrases) (entries_tokens a) (entries_tokens b)))
 
-pub entries_more : (a : List Entry) (number : List ℕ) (phrases : List Phrase) → entries_tokens (a ++ record { number = number; phrases = phrases } ∷ []) ≡ entries_tokens a ++ Number number ∷ phrases_tokens phrases
+pub entries_more : (a : List RcsEntry) (number : List ℕ) (phrases : List Phrase) → entries_tokens (a ++ record { number = number; phrases = phrases } ∷ []) ≡ entries_tokens a ++ Number number ∷ phrases_tokens phrases
 entries_more a number phrases = entries_both a (record { number = number; phrases = phrases } ∷ []) ∙ ap (λ l. entries_tokens a ++ Number number ∷ l) (append-nil (phrases_tokens phrases))
 
 -- the tokens of a text
@@ -166,8 +166,8 @@ entry_front_is s =
     ap (λ l. phrases_tokens s.file.head ++ l) (entries_more s.file.entries s.number s.phrases)
     ∙ sym (append_assoc (phrases_tokens s.file.head) (entries_tokens s.file.entries) (Number s.number ∷ phrases_tokens s.phrases))
 
-no_entries : (s : State) → NoEntries s → AllByRecursion (λ (e : Entry). ArePhrases (codes "desc") e.phrases) s.file.entries
-no_entries s none = subst (λ es. AllByRecursion (λ (e : Entry). ArePhrases (codes "desc") e.phrases) es) (sym none.0) tt
+no_entries : (s : State) → NoEntries s → AllByRecursion (λ (e : RcsEntry). ArePhrases (codes "desc") e.phrases) s.file.entries
+no_entries s none = subst (λ es. AllByRecursion (λ (e : RcsEntry). ArePhrases (codes "desc") e.phrases) es) (sym none.0) tt
 
 desc_is : (word : List ℕ) → bytes_eq word (codes "desc") ≡ true → word ≡ codes "desc"
 desc_is word e = (bytes_eq-Decides word (codes "desc")).0 e
@@ -184,8 +184,8 @@ at_head s (Quoted w) is = tt
 at_head s Semicolon is = tt
 at_head s Colon is = tt
 
-pub entry_ended : (s : State) → IsFront s → ArePhrases (codes "desc") s.phrases → AllByRecursion (λ (e : Entry). ArePhrases (codes "desc") e.phrases) (s.file.entries ++ record { number = s.number; phrases = s.phrases } ∷ [])
-entry_ended s front are = all_more (λ (e : Entry). ArePhrases (codes "desc") e.phrases) s.file.entries (record { number = s.number; phrases = s.phrases }) front.1.0 are
+pub entry_ended : (s : State) → IsFront s → ArePhrases (codes "desc") s.phrases → AllByRecursion (λ (e : RcsEntry). ArePhrases (codes "desc") e.phrases) (s.file.entries ++ record { number = s.number; phrases = s.phrases } ∷ [])
+entry_ended s front are = all_more (λ (e : RcsEntry). ArePhrases (codes "desc") e.phrases) s.file.entries (record { number = s.number; phrases = s.phrases }) front.1.0 are
 
 at_entry : (s : State) (t : Token) → IsAt EntryPhrases s → OfSome (After EntryPhrases s t) (between (with_entry s) EntryPhrase (at EntryPhrases s) t)
 at_entry s (Number w) is = (((is.0.0, (entry_ended s is.0 is.1, is.0.1.1)), tt), ap (λ l. l ++ Number w ∷ []) (entry_front_is s))

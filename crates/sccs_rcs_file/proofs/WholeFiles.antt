@@ -2,7 +2,7 @@
 use Rattle.std.proofs.Common.{◌≡◌, ℕ, false, cond, List, [], ◌∷◌, ◌++◌, codes, Option, None, Some, refl, sym, subst, ap, ◌∙◌, append-nil, append_assoc}
 use Rattle.std.specs.List.{AllByRecursion}
 use Rattle.std.specs.Str.{bytes_eq}
-use Rattle.sccs_rcs_file.specs.Forms.{ArePhrases, DeltaText, Entry, IsFile, Phrase, RcsFile, entries_tokens, file_tokens, is_semicolon, phrases_tokens, texts_tokens}
+use Rattle.sccs_rcs_file.specs.Forms.{ArePhrases, DeltaText, RcsEntry, IsFile, Phrase, RcsFile, entries_tokens, file_tokens, is_semicolon, phrases_tokens, texts_tokens}
 use Rattle.sccs_rcs_file.specs.Reading.{State, description_next, entry_begun, in_phrase, opened, start, step, step_at, with_entry, with_head, with_text}
 use Rattle.sccs_rcs_file.specs.TokenValues.{Token, Number, Word, Quoted, Semicolon, Colon}
 use Rattle.sccs_rcs_file.specs.declared.places.Place.{Place}
@@ -134,10 +134,10 @@ one_reaches s mid t b place file is reaches = record {
 other_file : (s : State) (tokens : List Token) (place : Place) (a b : RcsFile) → a ≡ b → Reaches s tokens place a → Reaches s tokens place b
 other_file s tokens place a b e reaches = subst (λ f. Reaches s tokens place f) e reaches
 
-abbrev IsFrontEntry : Entry → Type 0
+abbrev IsFrontEntry : RcsEntry → Type 0
 IsFrontEntry e = ArePhrases (codes "desc") e.phrases
 
-entries_reach : (s : State) (entries : List Entry) → AllByRecursion IsFrontEntry entries
+entries_reach : (s : State) (entries : List RcsEntry) → AllByRecursion IsFrontEntry entries
     → Reaches (record s { place = EntryPhrases }) (entries_tokens entries ++ Word (codes "desc") ∷ []) Description
     (record s.file { entries = s.file.entries ++ record { number = s.number; phrases = s.phrases } ∷ entries })
 entries_reach s [] are = record { state = description_next (with_entry s) (record s { place = EntryPhrases }); is = refl; place_is = refl; file_is = refl }
@@ -179,7 +179,7 @@ texts_reach s (t ∷ texts) are =
     (ap (λ l. record s.file { texts = l }) (append_assoc s.file.texts (t ∷ []) texts)) (texts_reach ended texts are.1)))))))
 
 -- the head, and what comes up to the description
-front_reaches : (head : List Phrase) (entries : List Entry) → ArePhrases (codes "desc") head → AllByRecursion IsFrontEntry entries
+front_reaches : (head : List Phrase) (entries : List RcsEntry) → ArePhrases (codes "desc") head → AllByRecursion IsFrontEntry entries
     → Reaches start (phrases_tokens head ++ (entries_tokens entries ++ Word (codes "desc") ∷ [])) Description (record { head = head; entries = entries; description = []; texts = [] })
 front_reaches head [] are entries_are =
     let behind = behind_phrases HeadPhrases start head in

@@ -11,7 +11,7 @@ pub record Phrase : Type 0 where
   pub inside : List Token
 
 -- A revision's number, and its phrases.
-pub record Entry : Type 0 where
+pub record RcsEntry : Type 0 where
   pub number : List ℕ
   pub phrases : List Phrase
 
@@ -24,7 +24,7 @@ pub record DeltaText : Type 0 where
 
 pub record RcsFile : Type 0 where
   pub head : List Phrase
-  pub entries : List Entry
+  pub entries : List RcsEntry
   pub description : List ℕ
   pub texts : List DeltaText
 
@@ -32,7 +32,7 @@ abbrev pub phrases_tokens : List Phrase → List Token
 phrases_tokens [] = []
 phrases_tokens (p ∷ phrases) = Word p.name ∷ p.inside ++ Semicolon ∷ phrases_tokens phrases
 
-abbrev pub entries_tokens : List Entry → List Token
+abbrev pub entries_tokens : List RcsEntry → List Token
 entries_tokens [] = []
 entries_tokens (e ∷ entries) = Number e.number ∷ phrases_tokens e.phrases ++ entries_tokens entries
 

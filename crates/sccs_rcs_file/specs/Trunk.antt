@@ -8,7 +8,7 @@ use Rattle.sccs_sid.specs.Sid.{sid_of}
 use Rattle.sccs_sid.specs.Words.{◌>>=◌, found}
 use Rattle.sccs_sid.specs.declared.moments.Moment.{Moment}
 use Rattle.sccs_sid.specs.declared.sids.Sid.{Sid}
-use Rattle.sccs_rcs_file.specs.Forms.{DeltaText, Entry, Phrase, RcsFile}
+use Rattle.sccs_rcs_file.specs.Forms.{DeltaText, RcsEntry, Phrase, RcsFile}
 use Rattle.sccs_rcs_file.specs.Lookups.{one_named}
 use Rattle.sccs_rcs_file.specs.Reading.{file_of}
 use Rattle.sccs_rcs_file.specs.declared.faults.RcsFault.{RcsFault}
@@ -139,7 +139,7 @@ pub record Facts : Type 0 where
 -- those of a number that has one entry and one text
 abbrev pub facts_of : Option Sid → List ℕ → RcsFile → Option Facts
 facts_of above number file = do
-  entry ← one_named (λ (e : Entry). e.number) number file.entries
+  entry ← one_named (λ (e : RcsEntry). e.number) number file.entries
   text ← one_named (λ (t : DeltaText). t.number) number file.texts
   sid ← trunk_sid above number
   fields ← fields_of entry.phrases

@@ -20,15 +20,15 @@ impl<'a> Model for Phrase<'a> {
 
 /// A revision's number, and its phrases.
 #[derive(Drop)]
-pub struct Entry<'a> {
+pub struct RcsEntry<'a> {
     pub(crate) number: &'a [u8],
     pub(crate) phrases: Vec<Phrase<'a>>,
 }
 
-impl<'a> Model for Entry<'a> {
-    ghost use Rattle.sccs_rcs_file.specs.Forms.{Entry};
+impl<'a> Model for RcsEntry<'a> {
+    ghost use Rattle.sccs_rcs_file.specs.Forms.{RcsEntry};
 
-    ghost Value = { Entry };
+    ghost Value = { RcsEntry };
 
     ghost view = { λ s. record { number = s.number.now; phrases = s.phrases.items } };
 
@@ -58,7 +58,7 @@ impl<'a> Model for DeltaText<'a> {
 #[derive(Drop)]
 pub struct RcsFile<'a> {
     pub(crate) head: Vec<Phrase<'a>>,
-    pub(crate) entries: Vec<Entry<'a>>,
+    pub(crate) entries: Vec<RcsEntry<'a>>,
     pub(crate) description: &'a [u8],
     pub(crate) texts: Vec<DeltaText<'a>>,
 }

@@ -17,7 +17,7 @@ mod tokens;
 mod trunks;
 
 pub use faults::RcsFault;
-pub use forms::{DeltaText, Entry, Phrase, RcsFile};
+pub use forms::{DeltaText, Phrase, RcsEntry, RcsFile};
 pub use kinds::{Token, TokenKind};
 pub use places::Place;
 pub use reading::read_file;

@@ -2,7 +2,7 @@ ghost use Rattle.std.specs.Prelude.{◌≡◌, ℕ, List, not, option_copied};
 ghost use Rattle.sccs_history.specs.Numbers.{is_empty};
 ghost use Rattle.sccs_rcs_file.specs.Lookups.{named, one_named};
 
-use crate::forms::{DeltaText, Entry, Phrase};
+use crate::forms::{DeltaText, Phrase, RcsEntry};
 
 /// What has a name in an RCS file.
 pub trait Named {
@@ -23,7 +23,7 @@ impl<'a> Named for Phrase<'a> {
     }
 }
 
-impl<'a> Named for Entry<'a> {
+impl<'a> Named for RcsEntry<'a> {
     ghost name_of = { λ e. e.number };
 
     fn name(&self) -> &[u8]

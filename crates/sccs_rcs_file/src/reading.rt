@@ -5,7 +5,7 @@ ghost use Rattle.sccs_rcs_file.specs.declared.faults.RcsFault.TheVariants.{BadRc
 ghost use Rattle.sccs_rcs_file.specs.Reading.{AnswersRead, Reads, Steps, is_part, read_on, start, description_next, entry_begun, file_of, in_phrase, opened, step, step_at, with_entry, with_head, with_text};
 
 use crate::faults::RcsFault;
-use crate::forms::{DeltaText, Entry, Phrase, RcsFile};
+use crate::forms::{DeltaText, Phrase, RcsEntry, RcsFile};
 use crate::kinds::{Token, TokenKind};
 use crate::places::Place;
 use crate::states::State;
@@ -56,7 +56,7 @@ fn end_entry(state: &mut State, alloc: Global) -> Result<(), Memory>
 {
     let phrases = replace(&mut state.phrases, Vec::new(alloc));
     let number = state.number;
-    state.file.entries.push(Entry { number, phrases })?;
+    state.file.entries.push(RcsEntry { number, phrases })?;
     Ok(())
 }
 

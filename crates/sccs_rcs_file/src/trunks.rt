@@ -2,13 +2,13 @@ ghost use Rattle.std.specs.Prelude.{◌≡◌, Some, option_and_then, option_cop
 ghost use Rattle.sccs_sid.specs.Sid.{IsSid};
 ghost use Rattle.sccs_trunks.specs.TrunkHistories.{is_below, trunk_scripts};
 ghost use Rattle.sccs_rcs_file.specs.Trunk.{ReadsRcs, ReadsTrunk, rcs_of, rcs_read, rcs_with, head_of, revision_of, revisions_at, trunk_of, at_most_one, facts_of, fields_of, inside_of, one_number, one_word, trunk_sid, unquoted, lines_in, or_empty_line, revision_by};
-ghost use Rattle.sccs_rcs_file.specs.Forms.{DeltaText, Entry};
+ghost use Rattle.sccs_rcs_file.specs.Forms.{DeltaText, RcsEntry};
 ghost use Rattle.sccs_rcs_file.specs.Lookups.{one_named};
 ghost use Rattle.sccs_rcs_file.specs.FactsSeen.{facts_seen, fields_seen, found_seen};
 
 use crate::dates::date_of;
 use crate::faults::RcsFault;
-use crate::forms::{DeltaText, Entry, Phrase, RcsFile};
+use crate::forms::{DeltaText, Phrase, RcsEntry, RcsFile};
 use crate::indexes::Index;
 use crate::kinds::{Token, TokenKind};
 use crate::lookups::one_named;
@@ -179,7 +179,7 @@ fn fields_of<'a>(phrases: &[Phrase<'a>]) -> Option<Fields<'a>>
 #[derive(Drop)]
 struct IndexedFile<'f, 'a> {
     file: &'f RcsFile<'a>,
-    entries: Index<'f, Entry<'a>>,
+    entries: Index<'f, RcsEntry<'a>>,
     texts: Index<'f, DeltaText<'a>>,
     ghost entries_are: { entries.items.now ≡ file.now.entries },
     ghost texts_are: { texts.items.now ≡ file.now.texts },
@@ -199,8 +199,8 @@ fn indexed<'f, 'a>(alloc: Global, file: &'f RcsFile<'a>) -> Result<IndexedFile<'
 }
 
 // the one entry of a number
-fn entry_of<'f, 'a>(indexed: &IndexedFile<'f, 'a>, number: &[u8]) -> Option<&'f Entry<'a>>
-    ensures { option_copied result ≡ one_named (λ (e : Entry). e.number) number.now indexed.now.file.now.entries }
+fn entry_of<'f, 'a>(indexed: &IndexedFile<'f, 'a>, number: &[u8]) -> Option<&'f RcsEntry<'a>>
+    ensures { option_copied result ≡ one_named (λ (e : RcsEntry). e.number) number.now indexed.now.file.now.entries }
 {
     indexed.entries.one(number)
 }

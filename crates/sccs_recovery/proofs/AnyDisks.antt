@@ -11,7 +11,7 @@ use Rattle.sccs_name_files.proofs.Touched.{each_newest}
 use Rattle.sccs_intents.specs.Intents.{entries_in, fate_in, intent_file, plan_file}
 use Rattle.sccs_intents.specs.declared.intents.Fate.{Fate}
 use Rattle.sccs_crash_points.specs.Calm.{HasFirm, IsCalm}
-use Rattle.sccs_crash_points.specs.Moments.{CanRecover, IsCalmUnnamed, IsFrom, NamesNone, Went}
+use Rattle.sccs_crash_points.specs.CrashPoints.{CanRecover, IsCalmUnnamed, IsFrom, NamesNone, Went}
 use Rattle.sccs_crash_points.specs.Recovery.{fate_at}
 use Rattle.sccs_crash_points.proofs.CalmDisks.{firms_touched}
 use Rattle.sccs_crash_points.proofs.Joined.{newest_is, numbered_as, numbered_now, numbered_zero, went_then}

@@ -1,4 +1,4 @@
--- A call that finishes a group follows its course.
+-- A call that finishes a group follows its list of steps.
 use Rattle.std.proofs.Common.{◌≡◌, ◌⊎◌, ℕ, suc, Bool, true, false, List, [], ◌∷◌, map, Option, None, Some, option_map, IfSome, Result, Ok, Err, inl, inr, refl, sym, ap, subst, ◌∙◌, ⊎_elim, arith}
 use Rattle.std.specs.Str.{bytes_eq}
 use Rattle.sccs_base.specs.Name.{sfile_name_decides}
@@ -11,8 +11,8 @@ use Rattle.sccs_disk.specs.Told.{Told, Tells, seen}
 use Rattle.sccs_name_files.specs.StepFiles.{Alike, Shows}
 use Rattle.sccs_name_files.specs.Touches.{Each, Touching}
 use Rattle.sccs_intents.specs.Intents.{AreOthers, entries_in, has_name, intent_file, plan_file}
-use Rattle.sccs_intents.specs.declared.intents.Entry.{Entry}
-use Rattle.sccs_crash_points.specs.Moments.{EndsAfter}
+use Rattle.sccs_intents.specs.declared.intents.IntentEntry.{IntentEntry}
+use Rattle.sccs_crash_points.specs.CrashPoints.{EndsAfter}
 use Rattle.sccs_crash_points.specs.Recovery.{RecoversAs, without_name}
 use Rattle.sccs_crash_points.specs.Unlocked.{BeginsUnlockedBut, KeepsOthers}
 use Rattle.sccs_crash_points.proofs.Recovering.{recovers_back, recovers_then}
@@ -23,12 +23,12 @@ use Rattle.sccs_steps.specs.ListStops.{AreSafe, KeepsSafe, KeepsSafeFrom, MayBeg
 use Rattle.sccs_steps.specs.StepLists.{AreAllCleared, NamedStep, ShowsNext, step_in}
 use Rattle.sccs_steps.specs.declared.faults.Fault.{Fault}
 use Rattle.sccs_steps.specs.declared.faults.Fault.TheVariants as ends
-use Rattle.sccs_steps.proofs.OneMoment.{Alikes, one_after, one_before, one_within}
+use Rattle.sccs_steps.proofs.OneCrashPoint.{Alikes, one_after, one_before, one_within}
 use Rattle.sccs_steps.proofs.SafeImages.{told_once}
 use Rattle.sccs_steps.proofs.Safety.{keeps_same}
-use Rattle.sccs_step_lists.specs.Courses.{AllClear, AllExempt, AllSafe}
-use Rattle.sccs_step_lists.specs.Following.{AreKnown, CourseMoments, RunsCourse, RunsTo, SpeaksTo}
-use Rattle.sccs_step_lists.proofs.CourseMomentLaws.{course_moments}
+use Rattle.sccs_step_lists.specs.StepLists.{AllClear, AllExempt, AllSafe}
+use Rattle.sccs_step_lists.specs.Following.{AreKnown, StepListCrashPoints, RunsStepList, RunsTo, SpeaksTo}
+use Rattle.sccs_step_lists.proofs.StepListCrashPointLaws.{step_list_crash_points}
 use Rattle.sccs_store.specs.Commits.{Becomes}
 use Rattle.sccs_group.specs.Finishing.{CanFinish, Completes, Finishes}
 use Rattle.sccs_group.specs.Halfway.{IsHalfway, intended, is_own_of_group}
@@ -41,7 +41,7 @@ use Rattle.sccs_group.specs.declared.members.Member.{Member}
 use Rattle.sccs_group.specs.Recovering.{IsBad, IsWellFormed, bare, finished_by, group_finished}
 use Rattle.sccs_group.specs.Ended.{IsCutOff, IsFinished, LosesPlan}
 use Rattle.sccs_recovery.specs.FinishingEnds.{BegunFinishing, FinishEnds, FinishOthers, IsLeft, WholeFinishing}
-use Rattle.sccs_recovery.specs.FinishStep.{finishing_action, finishing_course, finishing_portion, finishing_step, is_formed, name_part}
+use Rattle.sccs_recovery.specs.FinishStep.{finishing_action, finishing_step_list, finishing_portion, finishing_step, is_formed, name_part}
 use Rattle.sccs_recovery.proofs.FinishShown.{IsBegun, completed_cleared, finished_in, formed_alike, formed_by, half_alike, not_bad, own_fates, plan_alike, plan_cleared, same_intent, same_pairs, still_by}
 use Rattle.sccs_recovery.proofs.FinishStops.{after_of, are_safe, can_finish, follow_images, plan_before, plan_images, within_of}
 use Rattle.sccs_recovery.proofs.FinishViews.{IntentCase, Formed, Unformed, finished, finished_formed, finished_recovers, finished_safe, finished_unformed, intent_case, step_is}
@@ -147,10 +147,10 @@ cut_shown w v u a b begun told cut recovers = by (intent_case (v intent_file))
     halfway : IsHalfway (intended u) (Some u) (seen b)
     halfway = subst (λ (o : Option View). IsHalfway (intended u) o (seen b)) told (told_is (seen a) u (λ (x : View). IsHalfway (intended x) (seen a) (seen b)) told cut.halfway)
 
-    entries : (es : List Entry) → entries_in (v intent_file) ≡ es → intended u ≡ bare es
+    entries : (es : List IntentEntry) → entries_in (v intent_file) ≡ es → intended u ≡ bare es
     entries es is = ap (λ (o : Option Content). bare (entries_in o)) (same_intent w u v begun) ∙ ap bare is
 
-    placed_in : (formed : Bool) (es : List Entry) → is_formed (v intent_file) ≡ formed → entries_in (v intent_file) ≡ es → AreOthers es → SamePairs es u v → (o : Option View) → IsHalfway (bare es) (Some u) o → ShowsNext w (finishing_step v ∷ []) o v
+    placed_in : (formed : Bool) (es : List IntentEntry) → is_formed (v intent_file) ≡ formed → entries_in (v intent_file) ≡ es → AreOthers es → SamePairs es u v → (o : Option View) → IsHalfway (bare es) (Some u) o → ShowsNext w (finishing_step v ∷ []) o v
     placed_in formed es formed_is is others same None (whole, some, moves) = absurd moves
     placed_in formed es formed_is is others same (Some x) (whole, some, moves) =
         subst (λ (t : NamedStep). ShowsNext w (t ∷ []) (Some x) v) (sym (step_is v formed es formed_is is))
@@ -220,7 +220,7 @@ runs_to w (Err ends.DiskFault) folder a b out err spares clear shows known cut =
 runs_to w (Err ends.ReadFault) folder a b out err spares clear shows known ended = absurd ended
 runs_to w (Err ends.WriteFault) folder a b out err spares clear shows known ended = absurd ended
 
--- ---- the moments
+-- ---- the crash points
 
 module _ (w : List ℕ → Bool) (folder : Folder) (a b : Told) (out err : Option (List ℕ)) (m : Model) (past : List Model) (spares : Spares w) (clear : AllClear w (finishing_portion (view_in folder) ∷ [])) (shows : Shows w (seen a) (view_in folder)) (is : a ≡ Tells m past) (may : MayBegin folder m)
     (safe : AllSafe (view_in folder) (finishing_portion (view_in folder) ∷ [])) where
@@ -245,47 +245,47 @@ module _ (w : List ℕ → Bool) (folder : Folder) (a b : Told) (out err : Optio
     where
       by : IntentCase (view_in folder intent_file) → CanFinish m
       by (Formed es formed entries others) =
-          can_finish w (view_in folder) es m spares alike_now may.recovers may.calm entries (are_safe es (view_in folder) others (subst (λ (l : List Entry). AreSafe finishing_action (map name_part l) (view_in folder)) entries safe.0))
+          can_finish w (view_in folder) es m spares alike_now may.recovers may.calm entries (are_safe es (view_in folder) others (subst (λ (l : List IntentEntry). AreSafe finishing_action (map name_part l) (view_in folder)) entries safe.0))
       by (Unformed unformed none) = can_finish w (view_in folder) [] m spares alike_now may.recovers may.calm none tt
 
   -- it is made
-  made_moments : (status : ℕ) (after : EndsAfter (view_of m) (view_of m) m past b) → Each (Allows (KeepsSafeFrom m)) after.0.added m → Shows w (seen b) (view_in (step_in folder step)) → CourseMoments w (Ok status) folder (step ∷ []) (scene a out err) (scene b out err) m past
-  made_moments status after images shown_now =
-      course_moments w (Ok status) folder (step ∷ []) (scene a out err) (scene b out err) m past
+  made_crash_points : (status : ℕ) (after : EndsAfter (view_of m) (view_of m) m past b) → Each (Allows (KeepsSafeFrom m)) after.0.added m → Shows w (seen b) (view_in (step_in folder step)) → StepListCrashPoints w (Ok status) folder (step ∷ []) (scene a out err) (scene b out err) m past
+  made_crash_points status after images shown_now =
+      step_list_crash_points w (Ok status) folder (step ∷ []) (scene a out err) (scene b out err) m past
       (one_after w (Ok status) folder step (view_of m) (view_of m) (scene a out err) (scene b out err) m past alikes after (some_none out []) (some_none err []) shown_now) (λ other. keeps) images
 
   plan_run : LosesPlan a b → Touching (bytes_eq plan_file) m past b
   plan_run lost = lost.touches m past is
 
-  either_moments : (status : ℕ) → IsFinished a b ⊎ IsLeft a b → Shows w (seen b) (view_in (step_in folder step)) → CourseMoments w (Ok status) folder (step ∷ []) (scene a out err) (scene b out err) m past
-  either_moments status (inl whole) shown_now =
+  either_crash_points : (status : ℕ) → IsFinished a b ⊎ IsLeft a b → Shows w (seen b) (view_in (step_in folder step)) → StepListCrashPoints w (Ok status) folder (step ∷ []) (scene a out err) (scene b out err) m past
+  either_crash_points status (inl whole) shown_now =
       let done : Completes m past b = whole.done m past is can tt in
-      made_moments status (after_of m past b may.calm done) (follow_images m done.run.added may.calm done.run.each) shown_now
-  either_moments status (inr left) shown_now =
+      made_crash_points status (after_of m past b may.calm done) (follow_images m done.run.added may.calm done.run.each) shown_now
+  either_crash_points status (inr left) shown_now =
       let run : Touching (bytes_eq plan_file) m past b = plan_run left.lost in
       let after : EndsAfter (view_of m) (view_of m) m past b = before_after (view_of m) m past b (plan_before m past b may.calm run) in
-      made_moments status after (subst (λ (xs : List Model). Each (Allows (KeepsSafeFrom m)) xs m) (told_once run.added after.0.added m past b run.is after.0.is) (plan_images m run.added may.calm run.each)) shown_now
+      made_crash_points status after (subst (λ (xs : List Model). Each (Allows (KeepsSafeFrom m)) xs m) (told_once run.added after.0.added m past b run.is after.0.is) (plan_images m run.added may.calm run.each)) shown_now
 
-  pub ended_moments : (r : Result ℕ Fault) → FinishEnds r a b → CourseMoments w r folder (step ∷ []) (scene a out err) (scene b out err) m past
-  ended_moments (Ok status) ended =
-      either_moments status ended.1
+  pub ended_crash_points : (r : Result ℕ Fault) → FinishEnds r a b → StepListCrashPoints w r folder (step ∷ []) (scene a out err) (scene b out err) m past
+  ended_crash_points (Ok status) ended =
+      either_crash_points status ended.1
       (runs_to w (Ok status) folder a b out err spares clear shows (inr (inl (record { model = m; past = past; is = is; may = may; safe = safe }))) ended).1.view
-  ended_moments (Err ends.Memory) lost =
+  ended_crash_points (Err ends.Memory) lost =
       let run : Touching (bytes_eq plan_file) m past b = plan_run lost in
-      course_moments w (Err ends.Memory) folder (step ∷ []) (scene a out err) (scene b out err) m past
+      step_list_crash_points w (Err ends.Memory) folder (step ∷ []) (scene a out err) (scene b out err) m past
       (one_before w ends.Memory folder step (view_of m) (view_of m) (scene a out err) (scene b out err) m past alikes (plan_before m past b may.calm run) (some_none out []) (some_none err [])
       (false, lost_shown w folder a b spares clear shows lost)) (λ other. keeps_same (view_in folder)) (plan_images m run.added may.calm run.each)
-  ended_moments (Err ends.DiskFault) cut =
+  ended_crash_points (Err ends.DiskFault) cut =
       let run : Finishes m past b = cut.story m past is can tt in
-      course_moments w (Err ends.DiskFault) folder (step ∷ []) (scene a out err) (scene b out err) m past
+      step_list_crash_points w (Err ends.DiskFault) folder (step ∷ []) (scene a out err) (scene b out err) m past
       (one_within w folder step (view_of m) (view_of m) (scene a out err) (scene b out err) m past alikes (within_of m past b may.calm run) (some_none out []) (some_none err [])) (λ other. absurd (other refl)) (follow_images m run.added may.calm run.each)
-  ended_moments (Err ends.ReadFault) ended = absurd ended
-  ended_moments (Err ends.WriteFault) ended = absurd ended
+  ended_crash_points (Err ends.ReadFault) ended = absurd ended
+  ended_crash_points (Err ends.WriteFault) ended = absurd ended
 
 -- ---- the call
 
 -- names that aren't exempt aren't named by the intent
-not_named : (exempt : List ℕ → Bool) (es : List Entry) (n : List ℕ) → AreOthers es → AreExempt finishing_action exempt (map name_part es) → exempt n ≡ false → has_name es n ≡ false
+not_named : (exempt : List ℕ → Bool) (es : List IntentEntry) (n : List ℕ) → AreOthers es → AreExempt finishing_action exempt (map name_part es) → exempt n ≡ false → has_name es n ≡ false
 not_named exempt [] n others freed asked = refl
 not_named exempt (e ∷ es) n others freed asked =
     or_from (bytes_eq e.name n) (has_name es n)
@@ -295,12 +295,12 @@ not_named exempt (e ∷ es) n others freed asked =
 finish_unlocked : (w : List ℕ → Bool) (folder : Folder) (a b : Told) → Spares w → AllClear w (finishing_portion (view_in folder) ∷ []) → Shows w (seen a) (view_in folder) → FinishOthers a b → (exempt : List ℕ → Bool) → AllExempt exempt (finishing_portion (view_in folder) ∷ []) → BeginsUnlockedBut exempt a b
 finish_unlocked w folder a b spares clear shows others exempt freed =
     let call : IsCalled w folder a = called w folder a spares clear shows in
-    let es : List Entry = entries_in (call.u intent_file) in
+    let es : List IntentEntry = entries_in (call.u intent_file) in
     let members = intended_members call.u in
     let same : call.u intent_file ≡ view_in folder intent_file = same_intent w call.u (view_in folder) call.begun in
     let are : AreOthers (entries_in (call.u intent_file)) = subst AreOthers (bare_entries (entries_in (call.u intent_file))) members.0 in
     begin_but exempt (intended call.u) a b members.0 members.1
-    (λ n asked. subst (λ (l : List Entry). has_name l n ≡ false) (sym (bare_entries (entries_in (call.u intent_file))))
+    (λ n asked. subst (λ (l : List IntentEntry). has_name l n ≡ false) (sym (bare_entries (entries_in (call.u intent_file))))
     (not_named exempt (entries_in (call.u intent_file)) n are (subst (λ (o : Option Content). AreExempt finishing_action exempt (map name_part (entries_in o))) (sym same) freed.0) asked))
     (told_is (seen a) call.u (λ (v : View). KeepsOthers (is_own_of_group (intended v)) a b) call.told others)
 
@@ -320,12 +320,12 @@ causes_so r a b i o e d d2 ended causes = record {
 }
 
 pub finish_runs : (r : Result ℕ Fault) (left : Option (List ℕ)) (a b : Told) (out err : Option (List ℕ)) (i o e d d2 : ℕ) → FinishEnds r a b → FinishOthers a b → DiskCauses (r ≡ Err ends.DiskFault) d d2
-    → RunsCourse finishing_course (λ (input : List ℕ). Unit {0}) WholeFinishing BegunFinishing r (record { left = left; stage = scene a out err; faults = counts i o e d }) (record { left = left; stage = scene b out err; faults = counts i o e d2 })
+    → RunsStepList finishing_step_list (λ (input : List ℕ). Unit {0}) WholeFinishing BegunFinishing r (record { left = left; stage = scene a out err; faults = counts i o e d }) (record { left = left; stage = scene b out err; faults = counts i o e d2 })
 finish_runs r left a b out err i o e d d2 ended others causes = record {
   some = λ folder input given. λ e. absurd cc;
   takes = λ folder input. (λ changes n fits. ((sfile_name_decides n).0 fits).1, tt);
   steps = λ w folder input spares clear shows known given. runs_to w r folder a b out err spares clear shows known ended;
-  stops = λ w folder input m past spares clear shows given told may safe. ended_moments w folder a b out err m past spares clear shows told may safe r ended;
+  stops = λ w folder input m past spares clear shows given told may safe. ended_crash_points w folder a b out err m past spares clear shows told may safe r ended;
   unlocked = λ w folder input spares clear shows known given exempt plain freed. finish_unlocked w folder a b spares clear shows others exempt freed;
   speaks = speaks_so r a b err ended;
   causes = causes_so r a b i o e d d2 ended causes;

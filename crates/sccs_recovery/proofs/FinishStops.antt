@@ -2,7 +2,7 @@
 use Rattle.std.proofs.Common.{◌≡◌, ℕ, Bool, false, List, [], ◌∷◌, map, Option, IsSome, is_some, inl, refl, sym, ap, subst, ◌∙◌, ⊎_elim, arith}
 use Rattle.std.specs.List.{AllByRecursion}
 use Rattle.std.specs.Str.{bytes_eq}
-use Rattle.sccs_base.specs.Name.{IsSfile, p_file, q_file, x_file, z_file, sfile_name_decides}
+use Rattle.sccs_base.specs.Name.{IsSFileName, p_file, q_file, x_file, z_file, sfile_name_decides}
 use Rattle.sccs_disk.specs.Files.{Content, Model, View, view_of}
 use Rattle.sccs_disk.specs.Images.{Allows, Image}
 use Rattle.sccs_disk.specs.Told.{Told}
@@ -11,10 +11,10 @@ use Rattle.sccs_name_files.specs.Touches.{Each, Touches, Touching, newest}
 use Rattle.sccs_name_files.proofs.Images.{view_image}
 use Rattle.sccs_name_files.proofs.Touched.{each_newest}
 use Rattle.sccs_intents.specs.Intents.{AreOthers, entries_in, fate_in, intent_file, plan_file}
-use Rattle.sccs_intents.specs.declared.intents.Entry.{Entry}
+use Rattle.sccs_intents.specs.declared.intents.IntentEntry.{IntentEntry}
 use Rattle.sccs_intents.specs.declared.intents.Fate.{Fate}
 use Rattle.sccs_crash_points.specs.Calm.{IsCalm, KeepsPairs}
-use Rattle.sccs_crash_points.specs.Moments.{EndsAfter, EndsBefore, EndsWithin, IsAt, IsFrom, Stays}
+use Rattle.sccs_crash_points.specs.CrashPoints.{EndsAfter, EndsBefore, EndsWithin, IsAt, IsFrom, Stays}
 use Rattle.sccs_crash_points.specs.Recovery.{RecoversAs, fate_at, IsHeldAt}
 use Rattle.sccs_crash_points.proofs.CalmDisks.{calm_firm}
 use Rattle.sccs_crash_points.proofs.Joined.{numbered_zero, raised, each_by}
@@ -76,7 +76,7 @@ plan_held n m m2 touches all = λ x image named.
 -- ---- names stay safe
 
 -- an image that recovers as the view, and holds the names that were held
-image_safe : (m : Model) (x : View) → RecoversAs (view_of m) x → ((n : List ℕ) → IsSfile n → Allows (IsHeldAt n) m → IsHeldAt n x) → KeepsSafeFrom m x
+image_safe : (m : Model) (x : View) → RecoversAs (view_of m) x → ((n : List ℕ) → IsSFileName n → Allows (IsHeldAt n) m → IsHeldAt n x) → KeepsSafeFrom m x
 image_safe m x recovers held = λ n sfile all. safe_by n (view_of m) x sfile recovers (held n sfile (λ u image. named_held n u (all u image))) (all (view_of m) (view_image m))
 
 pub plan_images : (m : Model) (added : List Model) → IsCalm m → Each (Touches (bytes_eq plan_file) m) added m → Each (Allows (KeepsSafeFrom m)) added m
@@ -126,30 +126,30 @@ after_of m past new calm done = (
 -- ---- where it may begin
 
 -- what holds of each entry holds of a name that the intent names
-entry_of_fate : (P : List ℕ → Type 0) (es : List Entry) (n : List ℕ) → AllByRecursion (λ (e : Entry). P e.name) es → IsSome (fate_in es n) → P n
+entry_of_fate : (P : List ℕ → Type 0) (es : List IntentEntry) (n : List ℕ) → AllByRecursion (λ (e : IntentEntry). P e.name) es → IsSome (fate_in es n) → P n
 entry_of_fate P [] n all named = absurd cc
 entry_of_fate P (e ∷ es) n all named = with_rest P e es n all named (λ later. entry_of_fate P es n all.1 later)
   where
-    with_rest : (P : List ℕ → Type 0) (e : Entry) (es : List Entry) (n : List ℕ) → AllByRecursion (λ (d : Entry). P d.name) (e ∷ es) → IsSome (fate_in (e ∷ es) n) → (IsSome (fate_in es n) → P n) → P n
+    with_rest : (P : List ℕ → Type 0) (e : IntentEntry) (es : List IntentEntry) (n : List ℕ) → AllByRecursion (λ (d : IntentEntry). P d.name) (e ∷ es) → IsSome (fate_in (e ∷ es) n) → (IsSome (fate_in es n) → P n) → P n
     with_rest P e es n all named rest =
         ⊎_elim (λ is. subst P is all.0) (λ apart. rest (subst (λ (f : Option Fate). IsSome f) (fate_tail e es n apart) named)) (name_cases e.name n)
 
 -- each name of an intent is safe
-pub are_safe : (es : List Entry) (v : View) → AreOthers es → AreSafe finishing_action (map name_part es) v → AllByRecursion (λ (e : Entry). IsSafe e.name v) es
+pub are_safe : (es : List IntentEntry) (v : View) → AreOthers es → AreSafe finishing_action (map name_part es) v → AllByRecursion (λ (e : IntentEntry). IsSafe e.name v) es
 are_safe [] v others safe = tt
 are_safe (e ∷ es) v others safe = (safe.0 ((sfile_name_decides e.name).1 (others.0.name, others.0.sfile)) refl, are_safe es v others.1 safe.1)
 
-named_safe : (v : View) (es : List Entry) (n : List ℕ) → entries_in (v intent_file) ≡ es → AllByRecursion (λ (e : Entry). IsSafe e.name v) es → IsSome (fate_at v n) → IsSafe n v
-named_safe v es n is all named = entry_of_fate (λ l. IsSafe l v) es n all (subst (λ (l : List Entry). IsSome (fate_in l n)) is named)
+named_safe : (v : View) (es : List IntentEntry) (n : List ℕ) → entries_in (v intent_file) ≡ es → AllByRecursion (λ (e : IntentEntry). IsSafe e.name v) es → IsSome (fate_at v n) → IsSafe n v
+named_safe v es n is all named = entry_of_fate (λ l. IsSafe l v) es n all (subst (λ (l : List IntentEntry). IsSome (fate_in l n)) is named)
 
 -- on a calm disk it may begin where each name of the intent is safe
-pub can_finish : (w : List ℕ → Bool) (v : View) (es : List Entry) (m : Model) → Spares w → Alike w (view_of m) v → RecoversAs v (view_of m) → IsCalm m → entries_in (v intent_file) ≡ es → AllByRecursion (λ (e : Entry). IsSafe e.name v) es → CanFinish m
+pub can_finish : (w : List ℕ → Bool) (v : View) (es : List IntentEntry) (m : Model) → Spares w → Alike w (view_of m) v → RecoversAs v (view_of m) → IsCalm m → entries_in (v intent_file) ≡ es → AllByRecursion (λ (e : IntentEntry). IsSafe e.name v) es → CanFinish m
 can_finish w v es m spares alike recovers calm is all = record {
   firm = calm_firm m calm;
   held = λ n sfile named. named_held n (view_of m) (now n sfile named) named;
   settled = λ n sfile named. (now n sfile named).settled;
 }
   where
-    now : (n : List ℕ) → IsSfile n → IsSome (fate_at (view_of m) n) → IsSafe n (view_of m)
+    now : (n : List ℕ) → IsSFileName n → IsSome (fate_at (view_of m) n) → IsSafe n (view_of m)
     now n sfile named =
         alike_safe w n v (view_of m) spares sfile (λ k h. sym (alike k h)) recovers (named_safe v es n is all (subst (λ (f : Option Fate). IsSome f) (fate_same n v (view_of m) (alike intent_file spares.intent)) named))

@@ -18,7 +18,7 @@ use Rattle.sccs_group.proofs.Intended.{halfway_still, others_still, plan_gone_ha
 use Rattle.sccs_group.proofs.Runs.{by_same}
 use Rattle.sccs_name_files.specs.Touches.{TouchesOnly}
 use Rattle.sccs_intents.specs.Intents.{entries_in, intent_of, plan_file, well_formed}
-use Rattle.sccs_intents.specs.declared.intents.Entry.{Entry}
+use Rattle.sccs_intents.specs.declared.intents.IntentEntry.{IntentEntry}
 use Rattle.sccs_crash_points.specs.Recovery.{without_name}
 use Rattle.sccs_base.specs.NameSets.{HasNames, names_in}
 use Rattle.sccs_base.proofs.Inserting.{names_more}
@@ -30,27 +30,27 @@ use Rattle.sccs_base.proofs.Rises.{rose_later}
 -- ---- the names
 
 -- with one entry more
-entry_more : (es : List Entry) (k : ℕ) (e : Entry) (bytes : List ℕ) (old new : BTreeSet (Vec ℕ)) → k < length es → e ≡ get_or es k e → bytes ≡ e.name → HasNames old (names_of (take k es))
+entry_more : (es : List IntentEntry) (k : ℕ) (e : IntentEntry) (bytes : List ℕ) (old new : BTreeSet (Vec ℕ)) → k < length es → e ≡ get_or es k e → bytes ≡ e.name → HasNames old (names_of (take k es))
     → ((n : List ℕ) → list_any (bytes_eq n) (names_in new) ≡ (bytes_eq n bytes || list_any (bytes_eq n) (names_in old))) → HasNames new (names_of (take (k + 1) es))
 entry_more es k e bytes old new low is same has more =
-    let name : Entry → List ℕ = λ (x : Entry). x.name in
+    let name : IntentEntry → List ℕ = λ (x : IntentEntry). x.name in
     subst (λ (ns : List (List ℕ)). HasNames new ns) (take-map name (k + 1) es)
     (names_more (names_of es) k e.name bytes old new (subst (λ (l : ℕ). k < l) (sym (length-map es name)) low) (ap name is ∙ sym (get_or-map name es k e e.name low)) same
     (subst (λ (ns : List (List ℕ)). HasNames old ns) (sym (take-map name k es)) has) more)
 
-pub entry_among : (items es : List Entry) (k : ℕ) (e : Entry) (bytes : List ℕ) (old new : BTreeSet (Vec ℕ)) → items ≡ es → k < length items → e ≡ get_or items k e → bytes ≡ e.name → HasNames old (names_of (take k es))
+pub entry_among : (items es : List IntentEntry) (k : ℕ) (e : IntentEntry) (bytes : List ℕ) (old new : BTreeSet (Vec ℕ)) → items ≡ es → k < length items → e ≡ get_or items k e → bytes ≡ e.name → HasNames old (names_of (take k es))
     → ((n : List ℕ) → list_any (bytes_eq n) (names_in new) ≡ (bytes_eq n bytes || list_any (bytes_eq n) (names_in old))) → HasNames new (names_of (take (k + 1) es))
 entry_among items es k e bytes old new all low is same has more =
-    entry_more es k e bytes old new (subst (λ (l : List Entry). k < length l) all low) (subst (λ (l : List Entry). e ≡ get_or l k e) all is) same has more
+    entry_more es k e bytes old new (subst (λ (l : List IntentEntry). k < length l) all low) (subst (λ (l : List IntentEntry). e ≡ get_or l k e) all is) same has more
 
 -- those of a text that was read
-pub read_names : (r : Result (BTreeSet (Vec ℕ)) Memory) (bytes : List ℕ) (es : List Entry) → intent_of bytes ≡ Ok es → IfOk r (λ (set : BTreeSet (Vec ℕ)). HasNames set (names_of es))
+pub read_names : (r : Result (BTreeSet (Vec ℕ)) Memory) (bytes : List ℕ) (es : List IntentEntry) → intent_of bytes ≡ Ok es → IfOk r (λ (set : BTreeSet (Vec ℕ)). HasNames set (names_of es))
     → IfOk r (λ (set : BTreeSet (Vec ℕ)). HasNames set (names_of (well_formed (intent_of bytes))))
-read_names (Ok set) bytes es is has = subst (λ (read : Result (List Entry) ℕ). HasNames set (names_of (well_formed read))) (sym is) has
+read_names (Ok set) bytes es is has = subst (λ (read : Result (List IntentEntry) ℕ). HasNames set (names_of (well_formed read))) (sym is) has
 read_names (Err fault) bytes es is has = tt
 
 pub bad_names : (set : BTreeSet (Vec ℕ)) (bytes : List ℕ) (line : ℕ) → intent_of bytes ≡ Err line → HasNames set (names_of []) → HasNames set (names_of (well_formed (intent_of bytes)))
-bad_names set bytes line is has = subst (λ (read : Result (List Entry) ℕ). HasNames set (names_of (well_formed read))) (sym is) has
+bad_names set bytes line is has = subst (λ (read : Result (List IntentEntry) ℕ). HasNames set (names_of (well_formed read))) (sym is) has
 
 -- those of a file that was read whole
 pub whole_names : (o : Option Content) (bytes : List ℕ) (set : BTreeSet (Vec ℕ)) → AnswersWhole o (Ok bytes) → HasNames set (names_of (well_formed (intent_of bytes))) → HasNames set (names_of (entries_in o))
@@ -64,7 +64,7 @@ missing_names (Some c) set missing has = absurd cc
 
 pub long_names : (o : Option Content) (set : BTreeSet (Vec ℕ)) → AnswersWhole o (Err TooLong) → HasNames set (names_of []) → HasNames set (names_of (entries_in o))
 long_names None set long has = absurd long
-long_names (Some c) set long has = subst (λ (r : Result (List Entry) ℕ). HasNames set (names_of (well_formed r))) (sym (long_bad (Some c) long)) has
+long_names (Some c) set long has = subst (λ (r : Result (List IntentEntry) ℕ). HasNames set (names_of (well_formed r))) (sym (long_bad (Some c) long)) has
 
 pub told_names : (o : Option View) (set : BTreeSet (Vec ℕ)) (P : View → Type 0) → ((v : View) → P v → HasNames set (freed_in v)) → IfSome o P → IfSome o (λ (v : View). HasNames set (freed_in v))
 told_names None set P gives told = tt

@@ -9,7 +9,7 @@ use Rattle.sccs_name_files.specs.WholeFiles.{AnswersWhole}
 use Rattle.sccs_name_files.specs.declared.whole_files.WholeFault.TheVariants as whole
 use Rattle.sccs_group.proofs.Found.{long_bad}
 use Rattle.sccs_intents.specs.Intents.{intent_file, intent_of}
-use Rattle.sccs_intents.specs.declared.intents.Entry.{Entry}
+use Rattle.sccs_intents.specs.declared.intents.IntentEntry.{IntentEntry}
 use Rattle.sccs_crash_points.specs.Unlocked.{is_own}
 use Rattle.sccs_crash_points.proofs.Unlocked.{others_same}
 use Rattle.sccs_sid.specs.Reading.{◌>>=◌}
@@ -42,7 +42,7 @@ missing_passes (Some c) missing = absurd cc
 
 pub long_refuses : (intent : Option Content) → AnswersWhole intent (Err whole.TooLong) → PassesChecks {A = Unit {0}} (none_pending intent) (Err (Refused (BadIntent 1)))
 long_refuses None long = absurd long
-long_refuses (Some c) long = ap (λ (r : Result (List Entry) ℕ). Err (refuses_intent r)) (long_bad (Some c) long)
+long_refuses (Some c) long = ap (λ (r : Result (List IntentEntry) ℕ). Err (refuses_intent r)) (long_bad (Some c) long)
 
 -- ---- behind the check
 

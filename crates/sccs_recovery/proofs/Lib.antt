@@ -11,6 +11,6 @@ pub mod Moved
 pub mod NameFiles
 mod OtherNames
 mod ReadingLaws
-mod RecoverMoments
+mod RecoverCrashPoints
 pub mod RecoveryEnds
 mod RecoveryLaws

@@ -1,13 +1,13 @@
 -- The files of one name: what finishing makes of them, and what the step says.
 use Rattle.std.proofs.Common.{◌≡◌, ℕ, zero, suc, Bool, true, false, cond, List, drop, Option, None, Some, is_some, refl, sym, ap, subst, ◌∙◌}
 use Rattle.std.specs.Str.{bytes_eq}
-use Rattle.sccs_base.specs.Name.{IsSfile, p_file, q_file, x_file, y_file, z_file}
+use Rattle.sccs_base.specs.Name.{IsSFileName, p_file, q_file, x_file, y_file, z_file}
 use Rattle.sccs_base.proofs.SameBytes.{same_bytes}
 use Rattle.sccs_disk.specs.Effects.{renamed}
 use Rattle.sccs_disk.specs.Files.{Content, View, put}
 use Rattle.sccs_disk.proofs.Puts.{put_other, same_name}
 use Rattle.sccs_name_files.specs.StepFiles.{is_left, l_file, moved}
-use Rattle.sccs_intents.specs.declared.intents.Entry.{Entry}
+use Rattle.sccs_intents.specs.declared.intents.IntentEntry.{IntentEntry}
 use Rattle.sccs_intents.specs.declared.intents.Fate.{Fate}
 use Rattle.sccs_intents.specs.declared.intents.Fate.TheVariants.{Replaced, Removed}
 use Rattle.sccs_crash_points.specs.Recovery.{fated, newer, without_name}
@@ -20,7 +20,7 @@ use Rattle.sccs_group.proofs.Placing.{taken_other}
 use Rattle.sccs_recovery.specs.FinishStep.{finished_files}
 
 -- the member that an entry names
-abbrev pub bare_one : Entry → Member
+abbrev pub bare_one : IntentEntry → Member
 bare_one e = record { entry = e; removes_g = false }
 
 -- ---- a file in the place of another
@@ -43,7 +43,7 @@ taken_at from to v k apart =
 -- ---- the files of a name
 
 -- the s-file and the p-file come out alike
-pub record SamePair (e : Entry) (u v : View) : Type 0 where
+pub record SamePair (e : IntentEntry) (u v : View) : Type 0 where
   pub s : newer (u (x_file e.name)) (u e.name) ≡ newer (v (x_file e.name)) (v e.name)
   pub p : fated e.fate (u (q_file e.name)) (u (p_file e.name)) ≡ fated e.fate (v (q_file e.name)) (v (p_file e.name))
 
@@ -51,7 +51,7 @@ pub record SamePair (e : Entry) (u v : View) : Type 0 where
 pair_at : List ℕ → Option Content → Option Content → List ℕ → Option Content → Option Content
 pair_at n s p k here = cond (bytes_eq (p_file n) k) p (cond (bytes_eq n k) s here)
 
-two_at : (e : Entry) (u : View) (k : List ℕ) → IsSfile e.name → is_left e.name k ≡ false
+two_at : (e : IntentEntry) (u : View) (k : List ℕ) → IsSFileName e.name → is_left e.name k ≡ false
     → p_taken e.fate e.name (taken (x_file e.name) e.name u) k
     ≡ cond (bytes_eq (p_file e.name) k) (fated e.fate (u (q_file e.name)) (u (p_file e.name))) (cond (bytes_eq e.name k) (newer (u (x_file e.name)) (u e.name)) (u k))
 two_at e u k sfile h = by e.fate
@@ -80,7 +80,7 @@ two_at e u k sfile h = by e.fate
         ∙ ap (λ (o : Option Content). cond (bytes_eq (p_file e.name) k) (newer (u (q_file e.name)) (u (p_file e.name))) o) here))
     by Removed = ap (λ (o : Option Content). cond (bytes_eq (p_file e.name) k) None o) here
 
-pub placed_at : (e : Entry) (u : View) (k : List ℕ) → IsSfile e.name → is_left e.name k ≡ false
+pub placed_at : (e : IntentEntry) (u : View) (k : List ℕ) → IsSFileName e.name → is_left e.name k ≡ false
     → placed (bare_one e) u k ≡ cond (bytes_eq (p_file e.name) k) (fated e.fate (u (q_file e.name)) (u (p_file e.name))) (cond (bytes_eq e.name k) (newer (u (x_file e.name)) (u e.name)) (u k))
 placed_at e u k sfile h = put_other (p_taken e.fate e.name (taken (x_file e.name) e.name u)) (y_file e.name) k None (no_y e.name k (no_working e.name k h)) ∙ two_at e u k sfile h
 
@@ -90,7 +90,7 @@ swapped_conds true true a b here apart = absurd (let e = apart refl in cc)
 swapped_conds true false a b here apart = refl
 swapped_conds false p a b here apart = refl
 
-s_not_p : (n k : List ℕ) → IsSfile n → bytes_eq n k ≡ true → bytes_eq (p_file n) k ≡ false
+s_not_p : (n k : List ℕ) → IsSFileName n → bytes_eq n k ≡ true → bytes_eq (p_file n) k ≡ false
 s_not_p n k sfile is = subst (λ (l : List ℕ). bytes_eq (p_file n) l ≡ false) (same_name n k is) (from_sfile 112 n n sfile refl)
 
 pub kept_file : (v : View) (g k : List ℕ) → cond (bytes_eq g k) (v g) (v k) ≡ v k
@@ -100,7 +100,7 @@ kept_file v g k = by (bytes_eq g k) refl
     by true is = ap v (same_name g k is)
     by false is = refl
 
-pub files_at : (e : Entry) (v : View) (k : List ℕ) → IsSfile e.name → is_left e.name k ≡ false
+pub files_at : (e : IntentEntry) (v : View) (k : List ℕ) → IsSFileName e.name → is_left e.name k ≡ false
     → moved v e.name (Some (finished_files e v)) k ≡ cond (bytes_eq (p_file e.name) k) (fated e.fate (v (q_file e.name)) (v (p_file e.name))) (cond (bytes_eq e.name k) (newer (v (x_file e.name)) (v e.name)) (v k))
 files_at e v k sfile h =
     ap (λ (o : Option Content). cond (bytes_eq e.name k) (newer (v (x_file e.name)) (v e.name)) (cond (bytes_eq (p_file e.name) k) (fated e.fate (v (q_file e.name)) (v (p_file e.name))) (cond (bytes_eq (drop 2 e.name) k) (v (drop 2 e.name)) o)))
@@ -109,7 +109,7 @@ files_at e v k sfile h =
     ∙ swapped_conds (bytes_eq e.name k) (bytes_eq (p_file e.name) k) (newer (v (x_file e.name)) (v e.name)) (fated e.fate (v (q_file e.name)) (v (p_file e.name))) (v k) (λ is. s_not_p e.name k sfile is))
 
 -- what is placed is what is moved
-pub turn_at : (e : Entry) (u v : View) (k : List ℕ) → IsSfile e.name → is_left e.name k ≡ false → SamePair e u v → u k ≡ v k → placed (bare_one e) u k ≡ moved v e.name (Some (finished_files e v)) k
+pub turn_at : (e : IntentEntry) (u v : View) (k : List ℕ) → IsSFileName e.name → is_left e.name k ≡ false → SamePair e u v → u k ≡ v k → placed (bare_one e) u k ≡ moved v e.name (Some (finished_files e v)) k
 turn_at e u v k sfile h same agree =
     placed_at e u k sfile h
     ∙ (ap (λ (o : Option Content). cond (bytes_eq (p_file e.name) k) o (cond (bytes_eq e.name k) (newer (u (x_file e.name)) (u e.name)) (u k))) same.p
@@ -125,7 +125,7 @@ count_of zero = 0
 count_of (suc zero) = 2
 count_of (suc (suc some)) = 3
 
-first_two : (e : Entry) (u v : View) (k : List ℕ) → IsSfile e.name → is_left e.name k ≡ false → SamePair e u v → u k ≡ v k
+first_two : (e : IntentEntry) (u v : View) (k : List ℕ) → IsSFileName e.name → is_left e.name k ≡ false → SamePair e u v → u k ≡ v k
     → p_taken e.fate e.name (taken (x_file e.name) e.name u) k ≡ first_moved 3 v e.name (Some (finished_files e v)) k
 first_two e u v k sfile h same agree =
     two_at e u k sfile h
@@ -133,11 +133,11 @@ first_two e u v k sfile h same agree =
     ∙ (ap (λ (o : Option Content). cond (bytes_eq (p_file e.name) k) (fated e.fate (v (q_file e.name)) (v (p_file e.name))) (cond (bytes_eq e.name k) o (u k))) same.s
     ∙ ap (λ (o : Option Content). cond (bytes_eq (p_file e.name) k) (fated e.fate (v (q_file e.name)) (v (p_file e.name))) (cond (bytes_eq e.name k) (newer (v (x_file e.name)) (v e.name)) o)) (agree ∙ sym (kept_file v (l_file e.name) k))))
 
-with_y : (e : Entry) (u v : View) (k : List ℕ) → IsSfile e.name → is_left e.name k ≡ false → SamePair e u v → u k ≡ v k
+with_y : (e : IntentEntry) (u v : View) (k : List ℕ) → IsSFileName e.name → is_left e.name k ≡ false → SamePair e u v → u k ≡ v k
     → without_name (y_file e.name) (p_taken e.fate e.name (taken (x_file e.name) e.name u)) k ≡ first_moved 3 v e.name (Some (finished_files e v)) k
 with_y e u v k sfile h same agree = put_other (p_taken e.fate e.name (taken (x_file e.name) e.name u)) (y_file e.name) k None (no_y e.name k (no_working e.name k h)) ∙ first_two e u v k sfile h same agree
 
-pub part_at : (some : ℕ) (e : Entry) (u v : View) (k : List ℕ) → IsSfile e.name → is_left e.name k ≡ false → SamePair e u v → u k ≡ v k → part_placed some (bare_one e) u k ≡ first_moved (count_of some) v e.name (Some (finished_files e v)) k
+pub part_at : (some : ℕ) (e : IntentEntry) (u v : View) (k : List ℕ) → IsSFileName e.name → is_left e.name k ≡ false → SamePair e u v → u k ≡ v k → part_placed some (bare_one e) u k ≡ first_moved (count_of some) v e.name (Some (finished_files e v)) k
 part_at zero e u v k sfile h same agree = agree
 part_at (suc zero) e u v k sfile h same agree =
     taken_at (x_file e.name) e.name u k (no_x e.name k (no_working e.name k h))
@@ -154,19 +154,19 @@ pub record IsElsewhere (n k : List ℕ) : Type 0 where
   pub s : bytes_eq n k ≡ false
   pub p : bytes_eq (p_file n) k ≡ false
 
-pub else_s : (n k : List ℕ) → IsSfile n → IsSfile k → bytes_eq n k ≡ false → IsElsewhere n k
+pub else_s : (n k : List ℕ) → IsSFileName n → IsSFileName k → bytes_eq n k ≡ false → IsElsewhere n k
 else_s n k sfile other apart = record { left = left_s n k other; s = apart; p = from_sfile 112 n k other refl }
 
-pub else_p : (n k : List ℕ) → IsSfile n → IsSfile k → bytes_eq n k ≡ false → IsElsewhere n (p_file k)
+pub else_p : (n k : List ℕ) → IsSFileName n → IsSFileName k → bytes_eq n k ≡ false → IsElsewhere n (p_file k)
 else_p n k sfile other apart = record { left = refl; s = to_sfile 112 n k sfile refl; p = siblings_differ 112 n k sfile other apart }
 
-pub else_x : (n k : List ℕ) → IsSfile n → IsSfile k → bytes_eq n k ≡ false → IsElsewhere n (x_file k)
+pub else_x : (n k : List ℕ) → IsSFileName n → IsSFileName k → bytes_eq n k ≡ false → IsElsewhere n (x_file k)
 else_x n k sfile other apart = record { left = left_x n k sfile other apart; s = to_sfile 120 n k sfile refl; p = refl }
 
-pub else_q : (n k : List ℕ) → IsSfile n → IsSfile k → bytes_eq n k ≡ false → IsElsewhere n (q_file k)
+pub else_q : (n k : List ℕ) → IsSFileName n → IsSFileName k → bytes_eq n k ≡ false → IsElsewhere n (q_file k)
 else_q n k sfile other apart = record { left = left_q n k sfile other apart; s = to_sfile 113 n k sfile refl; p = refl }
 
-pub else_z : (n k : List ℕ) → IsSfile n → IsSfile k → bytes_eq n k ≡ false → IsElsewhere n (z_file k)
+pub else_z : (n k : List ℕ) → IsSFileName n → IsSFileName k → bytes_eq n k ≡ false → IsElsewhere n (z_file k)
 else_z n k sfile other apart = record { left = left_z n k sfile other apart; s = to_sfile 122 n k sfile refl; p = refl }
 
 neither : (s p : Bool) (a b here : Option Content) → s ≡ false → p ≡ false → cond p b (cond s a here) ≡ here
@@ -174,16 +174,16 @@ neither true p a b here s_is p_is = absurd cc
 neither false true a b here s_is p_is = absurd cc
 neither false false a b here s_is p_is = refl
 
-pub placed_else : (e : Entry) (u : View) (k : List ℕ) → IsSfile e.name → IsElsewhere e.name k → placed (bare_one e) u k ≡ u k
+pub placed_else : (e : IntentEntry) (u : View) (k : List ℕ) → IsSFileName e.name → IsElsewhere e.name k → placed (bare_one e) u k ≡ u k
 placed_else e u k sfile away =
     placed_at e u k sfile away.left ∙ neither (bytes_eq e.name k) (bytes_eq (p_file e.name) k) (newer (u (x_file e.name)) (u e.name)) (fated e.fate (u (q_file e.name)) (u (p_file e.name))) (u k) away.s away.p
 
-pub files_else : (e : Entry) (v : View) (k : List ℕ) → IsSfile e.name → IsElsewhere e.name k → moved v e.name (Some (finished_files e v)) k ≡ v k
+pub files_else : (e : IntentEntry) (v : View) (k : List ℕ) → IsSFileName e.name → IsElsewhere e.name k → moved v e.name (Some (finished_files e v)) k ≡ v k
 files_else e v k sfile away =
     files_at e v k sfile away.left ∙ neither (bytes_eq e.name k) (bytes_eq (p_file e.name) k) (newer (v (x_file e.name)) (v e.name)) (fated e.fate (v (q_file e.name)) (v (p_file e.name))) (v k) away.s away.p
 
 -- the pair of another name comes out as before
-pub pair_kept : (d : Entry) (u v u2 v2 : View) → u2 (x_file d.name) ≡ u (x_file d.name) → u2 d.name ≡ u d.name → u2 (q_file d.name) ≡ u (q_file d.name) → u2 (p_file d.name) ≡ u (p_file d.name)
+pub pair_kept : (d : IntentEntry) (u v u2 v2 : View) → u2 (x_file d.name) ≡ u (x_file d.name) → u2 d.name ≡ u d.name → u2 (q_file d.name) ≡ u (q_file d.name) → u2 (p_file d.name) ≡ u (p_file d.name)
     → v2 (x_file d.name) ≡ v (x_file d.name) → v2 d.name ≡ v d.name → v2 (q_file d.name) ≡ v (q_file d.name) → v2 (p_file d.name) ≡ v (p_file d.name) → SamePair d u v → SamePair d u2 v2
 pair_kept d u v u2 v2 ux us uq up vx vs vq vp same = record {
   s = ap (λ (o : Option Content). newer o (u2 d.name)) ux ∙ (ap (λ (o : Option Content). newer (u (x_file d.name)) o) us ∙ (same.s ∙ sym (ap (λ (o : Option Content). newer o (v2 d.name)) vx ∙ ap (λ (o : Option Content). newer (v (x_file d.name)) o) vs)));
@@ -198,12 +198,12 @@ own_two true false a b here s_is p_is = refl
 own_two true true a b here s_is p_is = absurd cc
 own_two false p a b here s_is p_is = absurd cc
 
-pub own_s : (e : Entry) (v : View) → IsSfile e.name → moved v e.name (Some (finished_files e v)) e.name ≡ newer (v (x_file e.name)) (v e.name)
+pub own_s : (e : IntentEntry) (v : View) → IsSFileName e.name → moved v e.name (Some (finished_files e v)) e.name ≡ newer (v (x_file e.name)) (v e.name)
 own_s e v sfile =
     files_at e v e.name sfile (left_s e.name e.name sfile)
     ∙ own_two (bytes_eq e.name e.name) (bytes_eq (p_file e.name) e.name) (newer (v (x_file e.name)) (v e.name)) (fated e.fate (v (q_file e.name)) (v (p_file e.name))) (v e.name) (same_bytes e.name) (from_sfile 112 e.name e.name sfile refl)
 
-pub own_p : (e : Entry) (v : View) → IsSfile e.name → moved v e.name (Some (finished_files e v)) (p_file e.name) ≡ fated e.fate (v (q_file e.name)) (v (p_file e.name))
+pub own_p : (e : IntentEntry) (v : View) → IsSFileName e.name → moved v e.name (Some (finished_files e v)) (p_file e.name) ≡ fated e.fate (v (q_file e.name)) (v (p_file e.name))
 own_p e v sfile =
     files_at e v (p_file e.name) sfile refl
     ∙ ap (λ (b : Bool). cond b (fated e.fate (v (q_file e.name)) (v (p_file e.name))) (cond (bytes_eq e.name (p_file e.name)) (newer (v (x_file e.name)) (v e.name)) (v (p_file e.name)))) (same_bytes (p_file e.name))
@@ -214,13 +214,13 @@ none_by true false other here gone none = refl
 none_by false false other here gone none = none
 
 -- a file that isn't there isn't made, but for the s-file and the p-file
-pub none_else : (e : Entry) (v : View) (k : List ℕ) → bytes_eq e.name k ≡ false → bytes_eq (p_file e.name) k ≡ false → v k ≡ None → moved v e.name (Some (finished_files e v)) k ≡ None
+pub none_else : (e : IntentEntry) (v : View) (k : List ℕ) → bytes_eq e.name k ≡ false → bytes_eq (p_file e.name) k ≡ false → v k ≡ None → moved v e.name (Some (finished_files e v)) k ≡ None
 none_else e v k s p none =
     ap (λ (b : Bool). cond b (newer (v (x_file e.name)) (v e.name)) (cond (bytes_eq (p_file e.name) k) (fated e.fate (v (q_file e.name)) (v (p_file e.name))) (cond (bytes_eq (drop 2 e.name) k) (v (drop 2 e.name)) (cond (bytes_eq (z_file e.name) k) None (put v (l_file e.name) (v (l_file e.name)) k))))) s
     ∙ (ap (λ (b : Bool). cond b (fated e.fate (v (q_file e.name)) (v (p_file e.name))) (cond (bytes_eq (drop 2 e.name) k) (v (drop 2 e.name)) (cond (bytes_eq (z_file e.name) k) None (put v (l_file e.name) (v (l_file e.name)) k)))) p
     ∙ none_by (bytes_eq (z_file e.name) k) (bytes_eq (drop 2 e.name) k) (v (drop 2 e.name)) (put v (l_file e.name) (v (l_file e.name)) k) (λ is. ap v (same_name (drop 2 e.name) k is) ∙ none) (kept_file v (l_file e.name) k ∙ none))
 
-pub own_z : (e : Entry) (v : View) → IsSfile e.name → moved v e.name (Some (finished_files e v)) (z_file e.name) ≡ None
+pub own_z : (e : IntentEntry) (v : View) → IsSFileName e.name → moved v e.name (Some (finished_files e v)) (z_file e.name) ≡ None
 own_z e v sfile =
     let below : Option Content = put v (l_file e.name) (v (l_file e.name)) (z_file e.name) in
     ap (λ (b : Bool). cond b (newer (v (x_file e.name)) (v e.name)) (cond (bytes_eq (drop 2 e.name) (z_file e.name)) (v (drop 2 e.name)) (cond (bytes_eq (z_file e.name) (z_file e.name)) None below))) (to_s 122 e.name sfile refl)

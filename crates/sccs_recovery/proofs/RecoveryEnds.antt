@@ -1,7 +1,7 @@
 -- How the call of the command recover ends: the files of the name, and what is said.
 use Rattle.std.proofs.Common.{arith, ◌≡◌, ◌≢◌, ◌↔◌, ◌⊎◌, ⊎_elim, ℕ, ◌≤◌, Bool, true, false, cond, ◌||◌, List, [], ◌∷◌, drop, Option, None, Some, option_map, IfSome, IsErrOf, IsSome, is_some, Result, Ok, Err, inl, inr, refl, sym, ap, subst, ◌∙◌}
 use Rattle.std.specs.Str.{bytes_eq}
-use Rattle.sccs_base.specs.Name.{IsSfile, is_sfile_name, sfile_name_decides, p_file, q_file, x_file, y_file, z_file}
+use Rattle.sccs_base.specs.Name.{IsSFileName, is_sfile_name, sfile_name_decides, p_file, q_file, x_file, y_file, z_file}
 use Rattle.sccs_base.specs.Stream.{Rose}
 use Rattle.sccs_base.proofs.Gifts.{gives_none, some_none}
 use Rattle.sccs_disk.specs.Files.{Content, View, put}
@@ -51,7 +51,7 @@ unsome : (u v : View) → Some u ≡ Some v → u ≡ v
 unsome u v e = cc
 
 -- a commit that failed
-pub part_partly : (n : List ℕ) (c : Plan) (o om od : Option View) → IsSfile n → Moves (is_working n) (λ v. v) o om → option_map (committed n c) om ≡ option_map (recover_alone n) o → IsPart n c om od → MovesPartly (is_left n) (recover_alone n) o od
+pub part_partly : (n : List ℕ) (c : Plan) (o om od : Option View) → IsSFileName n → Moves (is_working n) (λ v. v) o om → option_map (committed n c) om ≡ option_map (recover_alone n) o → IsPart n c om od → MovesPartly (is_left n) (recover_alone n) o od
 part_partly n c None om od sfile moves is part = part.1 ∙ ap (option_map (part_of n c part.0)) moves
 part_partly n c (Some v) None od sfile moves is part = absurd moves
 part_partly n c (Some v) (Some u) od sfile moves is part =
@@ -96,7 +96,7 @@ same_moves n a b same = subst (λ (t : Told). Moves (is_working n) (λ v. v) (se
 
 -- ---- recovery, file by file
 
-working_g : (n : List ℕ) → IsSfile n → is_working n (drop 2 n) ≡ false
+working_g : (n : List ℕ) → IsSFileName n → is_working n (drop 2 n) ≡ false
 working_g n sfile = rw (from_g 120 n sfile) rw (from_g 113 n sfile) rw (from_g 121 n sfile) refl
 
 -- a p-file without the entries whose delta is made, as a q-file in its place
@@ -112,7 +112,7 @@ as_commit n v there = ap (alone_by n v) there ∙ sym (ap (without_name (z_file 
 abbrev files : Option Content → Option Content → Option Content → Option Content → Files
 files s p g l = record { s = s; p = p; z = None; g = g; l = l }
 
-files_are : (n : List ℕ) (v : View) → IsSfile n → files_after n as_plan (with_q n v) ≡ recovered_files (look v n)
+files_are : (n : List ℕ) (v : View) → IsSFileName n → files_after n as_plan (with_q n v) ≡ recovered_files (look v n)
 files_are n v sfile =
     let p : Option Content = recovered_pfile (v n) (v (p_file n)) in
     let s_is : with_q n v n ≡ v n = put_other (cleared n v) (q_file n) n p (from_sfile 113 n n sfile refl) ∙ cleared_other n v n (working_s n n sfile) in
@@ -123,18 +123,18 @@ files_are n v sfile =
     ∙ (ap (λ (o : Option Content). files (v n) o (with_q n v (drop 2 n)) (with_q n v (l_file n))) p_is
     ∙ (ap (λ (o : Option Content). files (v n) p o (with_q n v (l_file n))) g_is ∙ ap (λ (o : Option Content). files (v n) p (v (drop 2 n)) o) l_is))
 
-unlocked_at : (n : List ℕ) (v : View) (k : List ℕ) → IsSfile n → is_some (v (z_file n)) ≡ true → is_working n k ≡ false → recover_alone n v k ≡ placed v n (recovered_files (look v n)) k
+unlocked_at : (n : List ℕ) (v : View) (k : List ℕ) → IsSFileName n → is_some (v (z_file n)) ≡ true → is_working n k ≡ false → recover_alone n v k ≡ placed v n (recovered_files (look v n)) k
 unlocked_at n v k sfile there h =
     ap (λ (u : View). u k) (as_commit n v there)
     ∙ (committed_at n as_plan (with_q n v) v k sfile h (λ off other. put_other (cleared n v) (q_file n) k (recovered_pfile (v n) (v (p_file n))) (no_q n k h) ∙ cleared_other n v k h)
     ∙ ap (λ (f : Files). placed v n f k) (files_are n v sfile))
 
 -- what recovery makes of the files is what the step says
-moved_by : (n : List ℕ) (v : View) (k : List ℕ) (z : Bool) → is_some (v (z_file n)) ≡ z → IsSfile n → is_working n k ≡ false → recover_alone n v k ≡ moved v n (cond z (Some (recovered_files (look v n))) None) k
+moved_by : (n : List ℕ) (v : View) (k : List ℕ) (z : Bool) → is_some (v (z_file n)) ≡ z → IsSFileName n → is_working n k ≡ false → recover_alone n v k ≡ moved v n (cond z (Some (recovered_files (look v n))) None) k
 moved_by n v k true is sfile h = unlocked_at n v k sfile is h
 moved_by n v k false is sfile h = ap (λ (u : View). u k) (ap (alone_by n v) is) ∙ put_other v (y_file n) k None (no_y n k h)
 
-pub recovers_at : (freed : List ℕ → Bool) (n : List ℕ) (v : View) (k : List ℕ) → IsSfile n → is_working n k ≡ false → recover_alone n v k ≡ moved v n (recovers freed n (look v n)).new k
+pub recovers_at : (freed : List ℕ → Bool) (n : List ℕ) (v : View) (k : List ℕ) → IsSFileName n → is_working n k ≡ false → recover_alone n v k ≡ moved v n (recovers freed n (look v n)).new k
 recovers_at freed n v k sfile h = moved_by n v k (is_some (v (z_file n))) refl sfile h
 
 -- the working files are gone, or but for the y-file as they were
@@ -175,7 +175,7 @@ abbrev pub is_recovered : (freed : List ℕ → Bool) → List ℕ → View → 
 is_recovered freed n v = Ok (recovers freed n (look v n))
 
 -- it is recovered, and what is said of it is cut
-pub cut_ends : (freed : List ℕ → Bool) (n : List ℕ) (v : View) (o2 : Option View) (out out2 err : Option (List ℕ)) → IsSfile n → o2 ≡ Some (recover_alone n v) → Says (Err WriteFault) (recovers freed n (look v n)).out out out2
+pub cut_ends : (freed : List ℕ → Bool) (n : List ℕ) (v : View) (o2 : Option View) (out out2 err : Option (List ℕ)) → IsSFileName n → o2 ≡ Some (recover_alone n v) → Says (Err WriteFault) (recovers freed n (look v n)).out out out2
     → (d : StepEffect) × (is_recovered freed n v ≡ Ok d) × ReportCut n d (world (Some v) out err) (world o2 out2 err)
 cut_ends freed n v o2 out out2 err sfile is says = (
   recovers freed n (look v n),
@@ -189,7 +189,7 @@ cut_ends freed n v o2 out out2 err sfile is says = (
   },
 )
 
-pub made_ends : (freed : List ℕ → Bool) (n : List ℕ) (v : View) (r : Result (Unit {0}) StepFault) (o2 : Option View) (out out2 err : Option (List ℕ)) → IsSfile n → o2 ≡ Some (recover_alone n v) → Says r (recovers freed n (look v n)).out out out2
+pub made_ends : (freed : List ℕ → Bool) (n : List ℕ) (v : View) (r : Result (Unit {0}) StepFault) (o2 : Option View) (out out2 err : Option (List ℕ)) → IsSFileName n → o2 ≡ Some (recover_alone n v) → Says r (recovers freed n (look v n)).out out out2
     → Meets (λ (done : Unit {0}). 0) r n (Ok (recovers freed n (look v n))) (world (Some v) out err) (world o2 out2 err)
 made_ends freed n v (Ok done) o2 out out2 err sfile is says = (
   recovers freed n (look v n),
@@ -208,7 +208,7 @@ made_ends freed n v (Err ReadFault) o2 out out2 err sfile is says = absurd says
 made_ends freed n v (Err DiskFault) o2 out out2 err sfile is says = absurd says
 made_ends freed n v (Err (Refused refusal)) o2 out out2 err sfile is says = absurd says
 
-pub made_steps : (freed : List ℕ → Bool) (n : List ℕ) (found : Recovered) (r : Result (Unit {0}) StepFault) (a b : Told) (left out out2 err : Option (List ℕ)) → IsSfile n → Becomes (recover_alone n) (seen a) (seen b)
+pub made_steps : (freed : List ℕ → Bool) (n : List ℕ) (found : Recovered) (r : Result (Unit {0}) StepFault) (a b : Told) (left out out2 err : Option (List ℕ)) → IsSFileName n → Becomes (recover_alone n) (seen a) (seen b)
     → IfSome (seen a) (λ (v : View). (found ≡ ways.Clean) ↔ (v (z_file n) ≡ None)) → IfSome (seen a) (λ (v : View). PassesChecks (free_checked n v) (Ok found)) → Says r (found_text n (is_locked found || freed n)) out out2
     → Stepped (recover_action freed) r n left (scene a out err) (scene b out2 err)
 made_steps freed n found r a b left out out2 err sfile view clean checks says = by (seen a) view clean checks
@@ -267,12 +267,12 @@ all_kept : (n : List ℕ) (v : View) (o2 : Option View) → MovesPartly (is_left
 all_kept n v None parts = absurd parts
 all_kept n v (Some w) parts = λ k h. ⊎_elim (λ e. e) (λ e. e) (parts k h)
 
-interrupted : (freed : List ℕ → Bool) (n : List ℕ) (v : View) (o2 : Option View) (r : Result Bool Refusal) (out err : Option (List ℕ)) → IsSfile n → MovesPartly (is_left n) (λ (u : View). recovers_if r n u) (Some v) o2
+interrupted : (freed : List ℕ → Bool) (n : List ℕ) (v : View) (o2 : Option View) (r : Result Bool Refusal) (out err : Option (List ℕ)) → IsSFileName n → MovesPartly (is_left n) (λ (u : View). recovers_if r n u) (Some v) o2
     → Meets (λ (done : Unit {0}). 0) (Err DiskFault) n (r >>= λ done. Ok (recovers freed n (look v n))) (world (Some v) out err) (world o2 out err)
 interrupted freed n v o2 (Ok done) out err sfile parts = record { view = in_order n v o2 (recovers freed n (look v n)).new (λ k h. recovers_at freed n v k sfile (no_working n k h)) parts; out = some_none out []; err = refl }
 interrupted freed n v o2 (Err refusal) out err sfile parts = record { view = (0, all_kept n v o2 parts); out = some_none out []; err = refl }
 
-fault_ends : (freed : List ℕ → Bool) (n : List ℕ) (v : View) (fault : StepFault) (r : Result Bool Refusal) (a b : Told) (out err : Option (List ℕ)) → IsSfile n → seen a ≡ Some v → free_checked n v ≡ r → Faults n fault a b
+fault_ends : (freed : List ℕ → Bool) (n : List ℕ) (v : View) (fault : StepFault) (r : Result Bool Refusal) (a b : Told) (out err : Option (List ℕ)) → IsSFileName n → seen a ≡ Some v → free_checked n v ≡ r → Faults n fault a b
     → Meets (λ (done : Unit {0}). 0) (Err fault) n (r >>= λ done. Ok (recovers freed n (look v n))) (world (Some v) out err) (world (seen b) out err)
 fault_ends freed n v (Refused refusal) r a b out err sfile told is faults =
     ends_silent v (seen b) n (r >>= λ done. Ok (recovers freed n (look v n))) (Refused refusal) out err (ap seen (faults.refused refusal refl) ∙ told)
@@ -288,7 +288,7 @@ fault_ends freed n v DiskFault r a b out err sfile told is faults =
 fault_ends freed n v ReadFault r a b out err sfile told is faults = absurd (faults.read refl)
 fault_ends freed n v WriteFault r a b out err sfile told is faults = absurd (faults.write refl)
 
-pub fault_steps : (freed : List ℕ → Bool) (n : List ℕ) (fault : StepFault) (a b : Told) (left out err : Option (List ℕ)) → IsSfile n → Faults n fault a b → Stepped (recover_action freed) (Err fault) n left (scene a out err) (scene b out err)
+pub fault_steps : (freed : List ℕ → Bool) (n : List ℕ) (fault : StepFault) (a b : Told) (left out err : Option (List ℕ)) → IsSFileName n → Faults n fault a b → Stepped (recover_action freed) (Err fault) n left (scene a out err) (scene b out err)
 fault_steps freed n fault a b left out err sfile faults = by (seen a) refl
   where
     by : (o : Option View) → seen a ≡ o → IfSome o (λ (v : View). (i : List ℕ) → IsHeard false left i → Meets (λ (done : Unit {0}). 0) (Err fault) n (recover_outcome freed n (v intent_file ∷ []) (look v n)) (world o out err) (world (seen b) out err))
@@ -342,7 +342,7 @@ partly_from n f a a1 b same parts = subst (λ (t : Told). MovesPartly (is_left n
 pub err_is : {T : Type 0} (e fault : StepFault) → IsErrOf {T = T} (Err e) fault → e ≡ fault
 err_is e fault is = cc
 
-pub is_sfile : (n : List ℕ) → is_sfile_name n ≡ true → IsSfile n
+pub is_sfile : (n : List ℕ) → is_sfile_name n ≡ true → IsSFileName n
 is_sfile n fits = ((sfile_name_decides n).0 fits).1
 
 pub say_causes : (r : Result (Unit {0}) StepFault) (i o o2 e d d2 : ℕ) → d ≤ d2 → WriteCauses r o o2 → StepCauses r (counts i o e d) (counts i o2 e d2)

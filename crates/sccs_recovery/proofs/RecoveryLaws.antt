@@ -1,6 +1,6 @@
 -- What recovery makes of a view, and what a stop in it leaves.
 use Rattle.std.proofs.Common.{◌≡◌, ℕ, Bool, false, cond, List, [], ◌∷◌, Option, None, Some, option_map, IfOk, IfSome, IsSome, is_some, OnErr, OnOk, Result, Ok, Err, inl, inr, refl, sym, ap, subst, ◌∙◌, ⊎_elim, arith}
-use Rattle.sccs_base.specs.Name.{IsSfile, p_file, q_file, x_file, z_file}
+use Rattle.sccs_base.specs.Name.{IsSFileName, p_file, q_file, x_file, z_file}
 use Rattle.sccs_disk.specs.Calls.{Done, Half, IsThere}
 use Rattle.sccs_disk.specs.Effects.{settled, syncing_names}
 use Rattle.sccs_disk.specs.Files.{Content, Model, View, put, view_of}
@@ -15,7 +15,7 @@ use Rattle.sccs_pfile.specs.Recovered.{recovered_pfile, written_pfile}
 use Rattle.sccs_pfile.proofs.Recovering.{twice_once}
 use Rattle.sccs_intents.specs.Intents.{intent_file}
 use Rattle.sccs_crash_points.specs.Calm.{HasFirm, IsCalm}
-use Rattle.sccs_crash_points.specs.Moments.{CanRecover, IsCalmUnnamed, IsFrom, IsNew, LeavesCalm, LeavesFirm, NamesNone, RecoversOn, Went}
+use Rattle.sccs_crash_points.specs.CrashPoints.{CanRecover, IsCalmUnnamed, IsFrom, IsNew, LeavesCalm, LeavesFirm, NamesNone, RecoversOn, Went}
 use Rattle.sccs_crash_points.specs.Recovery.{RecoversAs, cleared, fate_at, pair_of, recover, recover_alone, recover_by, without_name}
 use Rattle.sccs_crash_points.proofs.CalmDisks.{calm_settled, firms_touched}
 use Rattle.sccs_crash_points.proofs.FileNames.{working_s}
@@ -126,7 +126,7 @@ pub prepared_needs : (n : List ℕ) (left : PfileLeft) (new : NewFile) (a b d : 
     → Needs new (q_file n) (p_file n) d
 prepared_needs n left new a b d is recovers first second = needs_told n new d (subst (λ (x : NewFile). needs_of x n (seen d)) (sym is) (needs_seen n left (seen a) (seen b) (seen d) recovers first second))
 
--- ---- moments
+-- ---- crash points
 
 -- no intent names an s-file, so recovery of a name goes by its z-file alone
 alone_is : (n : List ℕ) (v : View) → fate_at v n ≡ None → recover n v ≡ recover_alone n v
@@ -136,7 +136,7 @@ now_unnamed : (m : Model) → CanRecover m → NamesNone (view_of m)
 now_unnamed m can = can.unnamed (view_of m) (view_image m)
 
 -- a run that touches working files alone
-abbrev pub from_run : (n : List ℕ) (m : Model) (past : List Model) (t : Told) → IsSfile n → CanRecover m → (run : Touching (is_working n) m past t) → Went (λ j w. IsFrom m w) m past 0 t
+abbrev pub from_run : (n : List ℕ) (m : Model) (past : List Model) (t : Told) → IsSFileName n → CanRecover m → (run : Touching (is_working n) m past t) → Went (λ j w. IsFrom m w) m past 0 t
 from_run n m past t sfile can run = record {
   added = run.added;
   is = run.is;
@@ -144,7 +144,7 @@ from_run n m past t sfile can run = record {
   guarded = guards_touched (is_working n) m run.added (λ k other. working_s n k other) (λ k other. refl) run.each;
 }
 
-pub touched_story : (n : List ℕ) (a b : Told) → IsSfile n → TouchesOnly (is_working n) a b → RecoversOn a b
+pub touched_story : (n : List ℕ) (a b : Told) → IsSFileName n → TouchesOnly (is_working n) a b → RecoversOn a b
 touched_story n a b sfile touches = λ m past is can. from_run n m past b sfile can (touches m past is)
 
 -- the story stays, where nothing is told anew
@@ -196,7 +196,7 @@ on_firm n Replace a b m m1 past past1 is is1 firm = firm m past is m1 past1 is1
 on_firm n Remove a b m m1 past past1 is is1 firm = tt
 
 -- what the commit needs
-can_commit : (n : List ℕ) (new : NewFile) (m m1 : Model) → IsSfile n → CanRecover m1 → OnReplace new (IsFirm (q_file n) m1) → IsSome (view_of m (z_file n)) → committed n (plan_left new) (view_of m1) ≡ recover_alone n (view_of m) → CanCommit n (plan_left new) m1
+can_commit : (n : List ℕ) (new : NewFile) (m m1 : Model) → IsSFileName n → CanRecover m1 → OnReplace new (IsFirm (q_file n) m1) → IsSome (view_of m (z_file n)) → committed n (plan_left new) (view_of m1) ≡ recover_alone n (view_of m) → CanCommit n (plan_left new) m1
 can_commit n new m m1 sfile can q there view = record {
   firm = can.firm;
   x_state = tt;
@@ -222,7 +222,7 @@ record Prepared (n : List ℕ) (new : NewFile) (m : Model) (past : List Model) (
   view : committed n (plan_left new) (view_of (newest run.added m)) ≡ recover_alone n (view_of m)
   can : CanCommit n (plan_left new) (newest run.added m)
 
-is_prepared : (n : List ℕ) (new : NewFile) (a b : Told) (m : Model) (past : List Model) → IsSfile n → IsThere (z_file n) a → option_map (committed n (plan_left new)) (seen b) ≡ option_map (recover_alone n) (seen a)
+is_prepared : (n : List ℕ) (new : NewFile) (a b : Told) (m : Model) (past : List Model) → IsSFileName n → IsThere (z_file n) a → option_map (committed n (plan_left new)) (seen b) ≡ option_map (recover_alone n) (seen a)
     → TouchesOnly (is_working n) a b → OnReplace new (Leaves (IsFirm (q_file n)) a b) → a ≡ Tells m past → CanRecover m → Prepared n new m past b
 is_prepared n new a b m past sfile there view touches firm_q is can =
     let run : Touching (is_working n) m past b = touches m past is in
@@ -235,23 +235,23 @@ is_prepared n new a b m past sfile there view touches firm_q is can =
     }
 
 -- the view after the commit
-alone_view : (n : List ℕ) (new : NewFile) (m m1 : Model) → IsSfile n → CanRecover m → committed n (plan_left new) (view_of m1) ≡ recover_alone n (view_of m) → recover n (view_of m) ≡ committed n (plan_left new) (view_of m1)
+alone_view : (n : List ℕ) (new : NewFile) (m m1 : Model) → IsSFileName n → CanRecover m → committed n (plan_left new) (view_of m1) ≡ recover_alone n (view_of m) → recover n (view_of m) ≡ committed n (plan_left new) (view_of m1)
 alone_view n new m m1 sfile can view = alone_is n (view_of m) (now_unnamed m can n sfile) ∙ sym view
 
 -- an image of the commit recovers as some image from before
-from_new : (n : List ℕ) (new : NewFile) (m m1 : Model) (j : ℕ) (u : View) → IsSfile n → CanRecover m → Touches (is_working n) m m1 → committed n (plan_left new) (view_of m1) ≡ recover_alone n (view_of m) → IsNew m1 (committed n (plan_left new) (view_of m1)) j u → IsFrom m u
+from_new : (n : List ℕ) (new : NewFile) (m m1 : Model) (j : ℕ) (u : View) → IsSFileName n → CanRecover m → Touches (is_working n) m m1 → committed n (plan_left new) (view_of m1) ≡ recover_alone n (view_of m) → IsNew m1 (committed n (plan_left new) (view_of m1)) j u → IsFrom m u
 from_new n new m m1 j u sfile can touches view (inl new_one) =
     (view_of m, view_image m, recovers_then (view_of m) (committed n (plan_left new) (view_of m1)) u (subst (λ (w : View). RecoversAs (view_of m) w) (alone_view n new m m1 sfile can view) (recovers_recovered n (view_of m) sfile)) new_one.recovers)
 from_new n new m m1 j u sfile can touches view (inr old) = from_touched n m m1 sfile (λ w image. can.unnamed w image n sfile) touches u old.1
 
 -- and an intent names no s-file in it
-none_new : (n : List ℕ) (new : NewFile) (m m1 : Model) (j : ℕ) (u : View) → IsSfile n → CanRecover m → Touches (is_working n) m m1 → committed n (plan_left new) (view_of m1) ≡ recover_alone n (view_of m) → IsNew m1 (committed n (plan_left new) (view_of m1)) j u → NamesNone u
+none_new : (n : List ℕ) (new : NewFile) (m m1 : Model) (j : ℕ) (u : View) → IsSFileName n → CanRecover m → Touches (is_working n) m m1 → committed n (plan_left new) (view_of m1) ≡ recover_alone n (view_of m) → IsNew m1 (committed n (plan_left new) (view_of m1)) j u → NamesNone u
 none_new n new m m1 j u sfile can touches view (inl new_one) = λ k other.
     fate_same k (view_of m) u (new_one.intent ∙ (ap (λ (w : View). w intent_file) (sym (alone_view n new m m1 sfile can view)) ∙ recover_intent n (view_of m) sfile)) ∙ now_unnamed m can k other
 none_new n new m m1 j u sfile can touches view (inr old) = none_touching n m m1 can touches u old.1
 
 -- a run of the commit, as one of recovery
-as_recovery : (n : List ℕ) (new : NewFile) (m m1 : Model) (past1 : List Model) (j : ℕ) (t : Told) → IsSfile n → CanRecover m → Touches (is_working n) m m1 → committed n (plan_left new) (view_of m1) ≡ recover_alone n (view_of m)
+as_recovery : (n : List ℕ) (new : NewFile) (m m1 : Model) (past1 : List Model) (j : ℕ) (t : Told) → IsSFileName n → CanRecover m → Touches (is_working n) m m1 → committed n (plan_left new) (view_of m1) ≡ recover_alone n (view_of m)
     → (went : Went (IsNew m1 (committed n (plan_left new) (view_of m1))) m1 past1 j t) → Went (λ i w. IsFrom m w) m1 past1 0 t
 as_recovery n new m m1 past1 j t sfile can touches view went = record {
   added = went.added;
@@ -261,13 +261,13 @@ as_recovery n new m m1 past1 j t sfile can touches view went = record {
 }
 
 -- at its end an intent names no s-file in any image
-none_ended : (n : List ℕ) (new : NewFile) (m m1 : Model) (past1 : List Model) (j : ℕ) (t : Told) → IsSfile n → CanRecover m → Touches (is_working n) m m1 → committed n (plan_left new) (view_of m1) ≡ recover_alone n (view_of m)
+none_ended : (n : List ℕ) (new : NewFile) (m m1 : Model) (past1 : List Model) (j : ℕ) (t : Told) → IsSFileName n → CanRecover m → Touches (is_working n) m m1 → committed n (plan_left new) (view_of m1) ≡ recover_alone n (view_of m)
     → (went : Went (IsNew m1 (committed n (plan_left new) (view_of m1))) m1 past1 j t) → Allows NamesNone (newest went.added m1)
 none_ended n new m m1 past1 j t sfile can touches view went = λ w image.
     none_new n new m m1 j w sfile can touches view (numbered_now (λ i m2. Allows (IsNew m1 (committed n (plan_left new) (view_of m1)) i) m2) 0 went.added m1 j went.numbers w image)
 
 -- the commit was stopped
-pub stopped_story : (n : List ℕ) (new : NewFile) (a b d : Told) → IsSfile n → IsThere (z_file n) a → option_map (committed n (plan_left new)) (seen b) ≡ option_map (recover_alone n) (seen a)
+pub stopped_story : (n : List ℕ) (new : NewFile) (a b d : Told) → IsSFileName n → IsThere (z_file n) a → option_map (committed n (plan_left new)) (seen b) ≡ option_map (recover_alone n) (seen a)
     → TouchesOnly (is_working n) a b → OnReplace new (Leaves (IsFirm (q_file n)) a b) → CommitStops n (plan_left new) b d → RecoversOn a d
 stopped_story n new a b d sfile there view touches firm_q stops = λ m past is can.
     let p : Prepared n new m past b = is_prepared n new a b m past sfile there view touches firm_q is can in
@@ -275,14 +275,14 @@ stopped_story n new a b d sfile there view touches firm_q stops = λ m past is c
     (as_recovery n new m (newest p.run.added m) (earlier p.run.added m past) 0 d sfile can (touched_now n m past b p.run) p.view (stops (newest p.run.added m) (earlier p.run.added m past) p.run.is p.can).0)
 
 -- the commit was made
-pub ended_story : (n : List ℕ) (new : NewFile) (a b d : Told) → IsSfile n → IsThere (z_file n) a → option_map (committed n (plan_left new)) (seen b) ≡ option_map (recover_alone n) (seen a)
+pub ended_story : (n : List ℕ) (new : NewFile) (a b d : Told) → IsSFileName n → IsThere (z_file n) a → option_map (committed n (plan_left new)) (seen b) ≡ option_map (recover_alone n) (seen a)
     → TouchesOnly (is_working n) a b → OnReplace new (Leaves (IsFirm (q_file n)) a b) → CommitEnds n (plan_left new) b d → RecoversOn a d
 ended_story n new a b d sfile there view touches firm_q ends = λ m past is can.
     let p : Prepared n new m past b = is_prepared n new a b m past sfile there view touches firm_q is can in
     went_then (λ j w. IsFrom m w) m past 0 b d (from_run n m past b sfile can p.run)
     (as_recovery n new m (newest p.run.added m) (earlier p.run.added m past) 1 d sfile can (touched_now n m past b p.run) p.view (ends (newest p.run.added m) (earlier p.run.added m past) p.run.is p.can).0)
 
-pub ended_calm : (n : List ℕ) (new : NewFile) (a b d : Told) → IsSfile n → IsThere (z_file n) a → option_map (committed n (plan_left new)) (seen b) ≡ option_map (recover_alone n) (seen a)
+pub ended_calm : (n : List ℕ) (new : NewFile) (a b d : Told) → IsSFileName n → IsThere (z_file n) a → option_map (committed n (plan_left new)) (seen b) ≡ option_map (recover_alone n) (seen a)
     → TouchesOnly (is_working n) a b → OnReplace new (Leaves (IsFirm (q_file n)) a b) → CommitEnds n (plan_left new) b d → LeavesCalm a d
 ended_calm n new a b d sfile there view touches firm_q ends = λ m past is can m2 past2 is2.
     let p : Prepared n new m past b = is_prepared n new a b m past sfile there view touches firm_q is can in
@@ -298,7 +298,7 @@ ended_calm n new a b d sfile there view touches firm_q ends = λ m past is can m
 
 -- ---- names that are synced
 
-settled_after : (n : List ℕ) (m : Model) (past : List Model) (b d : Told) → IsSfile n → CanRecover m → (run : Touching (is_working n) m past b) → d ≡ Tells (settled (newest run.added m)) (newest run.added m ∷ earlier run.added m past) → Went (λ j w. IsFrom m w) m past 0 d
+settled_after : (n : List ℕ) (m : Model) (past : List Model) (b d : Told) → IsSFileName n → CanRecover m → (run : Touching (is_working n) m past b) → d ≡ Tells (settled (newest run.added m)) (newest run.added m ∷ earlier run.added m past) → Went (λ j w. IsFrom m w) m past 0 d
 settled_after n m past b d sfile can run is =
     went_then (λ j w. IsFrom m w) m past 0 b d (from_run n m past b sfile can run) (record {
       added = settled (newest run.added m) ∷ [];
@@ -310,7 +310,7 @@ settled_after n m past b d sfile can run is =
     from_now : Allows (IsFrom m) (newest run.added m)
     from_now = from_touched n m (newest run.added m) sfile (λ w image. can.unnamed w image n sfile) (touched_now n m past b run)
 
-pub synced_story : {T F : Type 0} (n : List ℕ) (a b d : Told) (r : Result T F) → IsSfile n → TouchesOnly (is_working n) a b → OnOk r (Done syncing_names b d) → OnErr r (Half syncing_names b d) → RecoversOn a d
+pub synced_story : {T F : Type 0} (n : List ℕ) (a b d : Told) (r : Result T F) → IsSFileName n → TouchesOnly (is_working n) a b → OnOk r (Done syncing_names b d) → OnErr r (Half syncing_names b d) → RecoversOn a d
 synced_story n a b d (Ok x) sfile touches done half = λ m past is can.
     let run : Touching (is_working n) m past b = touches m past is in settled_after n m past b d sfile can run (done.model _ _ run.is)
 synced_story n a b d (Err e) sfile touches done half = λ m past is can.
@@ -344,7 +344,7 @@ firm_since a b d same firm = subst (λ t. LeavesFirm t d) same firm
 pub calm_leaves : (a b : Told) → LeavesCalm a b → LeavesFirm a b
 calm_leaves a b calm = λ m past is can m2 past2 is2. calm_recovers m2 (calm m past is can m2 past2 is2)
 
-pub stopped_firm : (n : List ℕ) (new : NewFile) (a b d : Told) → IsSfile n → IsThere (z_file n) a → option_map (committed n (plan_left new)) (seen b) ≡ option_map (recover_alone n) (seen a)
+pub stopped_firm : (n : List ℕ) (new : NewFile) (a b d : Told) → IsSFileName n → IsThere (z_file n) a → option_map (committed n (plan_left new)) (seen b) ≡ option_map (recover_alone n) (seen a)
     → TouchesOnly (is_working n) a b → OnReplace new (Leaves (IsFirm (q_file n)) a b) → CommitStops n (plan_left new) b d → LeavesFirm a d
 stopped_firm n new a b d sfile there view touches firm_q stops = λ m past is can m2 past2 is2.
     let p : Prepared n new m past b = is_prepared n new a b m past sfile there view touches firm_q is can in

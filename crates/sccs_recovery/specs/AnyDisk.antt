@@ -4,7 +4,7 @@ use Rattle.sccs_disk.specs.Files.{Model, view_of}
 use Rattle.sccs_disk.specs.Told.{Told, Tells}
 use Rattle.sccs_intents.specs.Intents.{intent_file}
 use Rattle.sccs_crash_points.specs.Calm.{IsCalm}
-use Rattle.sccs_crash_points.specs.Moments.{IsFrom, Went}
+use Rattle.sccs_crash_points.specs.CrashPoints.{IsFrom, Went}
 use Rattle.sccs_steps.specs.declared.faults.Fault.{Fault}
 use Rattle.sccs_steps.specs.declared.faults.Fault.TheVariants as ends
 use Rattle.sccs_group.specs.Finishing.{CanFinish}

@@ -15,13 +15,13 @@ use Rattle.sccs_grammar.specs.FileRefusals.{or_refusal}
 use Rattle.sccs_table.specs.declared.fronts.Front.{Front}
 use Rattle.sccs_pfile.specs.Reading.{edits_of}
 use Rattle.sccs_intents.specs.Intents.{intent_file, intent_of}
-use Rattle.sccs_intents.specs.declared.intents.Entry.{Entry}
+use Rattle.sccs_intents.specs.declared.intents.IntentEntry.{IntentEntry}
 use Rattle.sccs_crash_points.specs.Recovery.{recover_alone}
 use Rattle.sccs_steps.specs.Actions.{RefusesWithin}
 use Rattle.sccs_pfile.specs.declared.entries.Edit.{Edit}
 
 -- a group whose intent is of its form is to be finished first; another intent is at fault at its first line that isn't
-abbrev pub refuses_intent : Result (List Entry) ℕ → Refusal
+abbrev pub refuses_intent : Result (List IntentEntry) ℕ → Refusal
 refuses_intent (Ok entries) = GroupPending
 refuses_intent (Err line) = BadIntent line
 
@@ -87,7 +87,7 @@ PassesChecks checks (Err (Refused refusal)) = checks ≡ Err refusal
 PassesChecks checks (Err fault) = Unit {0}
 
 -- an intent that is there refuses so, and a fault may come in place of it
-abbrev pub RefusesIntent : Result (List Entry) ℕ → StepFault → Type 0
+abbrev pub RefusesIntent : Result (List IntentEntry) ℕ → StepFault → Type 0
 RefusesIntent read (Refused refusal) = refusal ≡ refuses_intent read
 RefusesIntent read fault = Unit {0}
 

@@ -5,7 +5,7 @@ use Rattle.sccs_disk.specs.Files.{View}
 use Rattle.sccs_disk.specs.Told.{Told, seen}
 use Rattle.sccs_name_files.specs.StepFiles.{AreCleared, Moves, MovesPartly, is_left, is_working}
 use Rattle.sccs_name_files.specs.Touches.{TouchesOnly}
-use Rattle.sccs_crash_points.specs.Moments.{LeavesCalm, LeavesFirm, RecoversOn}
+use Rattle.sccs_crash_points.specs.CrashPoints.{LeavesCalm, LeavesFirm, RecoversOn}
 use Rattle.sccs_crash_points.specs.Recovery.{recover_alone}
 use Rattle.sccs_crash_points.specs.Unlocked.{KeepsOthers, is_own}
 use Rattle.sccs_sid.specs.declared.refusals.Refusal.{Refusal}

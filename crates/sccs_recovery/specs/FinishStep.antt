@@ -6,14 +6,14 @@ use Rattle.sccs_base.specs.Name.{is_sfile_name, p_file, q_file, x_file}
 use Rattle.sccs_disk.specs.Files.{Content, View, view_in}
 use Rattle.sccs_name_files.specs.StepFiles.{Files, look, moved}
 use Rattle.sccs_intents.specs.Intents.{entries_in, intent_file, intent_of, plan_file}
-use Rattle.sccs_intents.specs.declared.intents.Entry.{Entry}
+use Rattle.sccs_intents.specs.declared.intents.IntentEntry.{IntentEntry}
 use Rattle.sccs_crash_points.specs.Recovery.{fated, newer}
 use Rattle.sccs_sid.specs.declared.refusals.Refusal.TheVariants.{BadName}
 use Rattle.sccs_steps.specs.Actions.{Action}
 use Rattle.sccs_steps.specs.StepEffects.{StepEffect}
 use Rattle.sccs_steps.specs.StepLists.{Move, NamedStep}
 use Rattle.sccs_steps.specs.declared.statuses.StatusRule.TheVariants.{Greatest}
-use Rattle.sccs_step_lists.specs.Courses.{Courses, Portion, course_of}
+use Rattle.sccs_step_lists.specs.StepLists.{StepLists, Portion, step_list_of}
 
 -- whether an intent is there and has its form
 abbrev pub is_formed : Option Content → Bool
@@ -21,19 +21,19 @@ is_formed None = false
 is_formed (Some c) = is_ok (intent_of c.bytes)
 
 -- the names of entries, in their order
-abbrev pub names_of : List Entry → List (List ℕ)
-names_of entries = map (λ (e : Entry). e.name) entries
+abbrev pub names_of : List IntentEntry → List (List ℕ)
+names_of entries = map (λ (e : IntentEntry). e.name) entries
 
 -- the names that finishing frees: those of an intent that is there and has its form
 abbrev pub freed_in : View → List (List ℕ)
 freed_in v = names_of (entries_in (v intent_file))
 
 -- the files of a name that an intent names, after its recovery
-abbrev pub finished_files : Entry → View → Files
+abbrev pub finished_files : IntentEntry → View → Files
 finished_files e v = record (look v e.name) { s = newer (v (x_file e.name)) (v e.name); p = fated e.fate (v (q_file e.name)) (v (p_file e.name)); z = None }
 
 -- one name after the other
-abbrev pub name_moves : View → List Entry → List Move
+abbrev pub name_moves : View → List IntentEntry → List Move
 name_moves v [] = []
 name_moves v (e ∷ es) = record { name = e.name; new = Some (finished_files e v) } ∷ name_moves (moved v e.name (Some (finished_files e v))) es
 
@@ -67,7 +67,7 @@ finishing_action = record {
   could = λ o. false;
 }
 
-abbrev pub name_part : Entry → NamedStep
+abbrev pub name_part : IntentEntry → NamedStep
 name_part e = record { name = e.name; effect = quiet None; more = [] }
 
 abbrev pub finishing_portion : View → Portion
@@ -80,5 +80,5 @@ finishing_portion v = record {
 }
 
 -- whatever it finds, the status is 0
-abbrev pub finishing_course : Courses
-finishing_course = λ folder i. course_of (finishing_portion (view_in folder) ∷ []) 0
+abbrev pub finishing_step_list : StepLists
+finishing_step_list = λ folder i. step_list_of (finishing_portion (view_in folder) ∷ []) 0

@@ -3,11 +3,11 @@ ghost use Rattle.sccs_disk.specs.Causes.{DiskCauses};
 ghost use Rattle.sccs_disk.specs.Files.{View};
 ghost use Rattle.sccs_disk.specs.Told.{seen};
 ghost use Rattle.sccs_base.specs.NameSets.{HasNames};
-ghost use Rattle.sccs_step_lists.specs.Following.{RunsCourse};
+ghost use Rattle.sccs_step_lists.specs.Following.{RunsStepList};
 ghost use Rattle.sccs_steps.specs.Settings.{SameLoans, setting};
 ghost use Rattle.sccs_steps.specs.declared.faults.Fault.TheVariants as ends;
 ghost use Rattle.sccs_recovery.specs.FinishingEnds.{BegunFinishing, FinishEnds, FinishOthers, WholeFinishing, status_of};
-ghost use Rattle.sccs_recovery.specs.FinishStep.{finishing_course, freed_in};
+ghost use Rattle.sccs_recovery.specs.FinishStep.{finishing_step_list, freed_in};
 
 use crate::freed_names::freed_names;
 use crate::plans::lose_plan;
@@ -71,7 +71,7 @@ pub fn finish<I: Source, O: Sink, E: Sink, D: Disk>(
     ensures heard { (setting I.Source O.Sink E.Sink D.Disk streams.new).faults.input ≡ (setting I.Source O.Sink E.Sink D.Disk streams.old).faults.input }
     ensures ends { FinishEnds result (setting I.Source O.Sink E.Sink D.Disk streams.old).stage.told (setting I.Source O.Sink E.Sink D.Disk streams.new).stage.told }
     ensures freed { OnOk result (IfSome (seen (setting I.Source O.Sink E.Sink D.Disk streams.old).stage.told) (λ (v : View). HasNames freed.new (freed_in v))) }
-    ensures run { RunsCourse finishing_course (λ (i : List ℕ). Unit {0}) WholeFinishing BegunFinishing result (setting I.Source O.Sink E.Sink D.Disk streams.old) (setting I.Source O.Sink E.Sink D.Disk streams.new) }
+    ensures run { RunsStepList finishing_step_list (λ (i : List ℕ). Unit {0}) WholeFinishing BegunFinishing result (setting I.Source O.Sink E.Sink D.Disk streams.old) (setting I.Source O.Sink E.Sink D.Disk streams.new) }
 {
     finish_names(alloc, streams.disk, freed)
 }

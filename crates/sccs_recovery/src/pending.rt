@@ -1,5 +1,5 @@
 ghost use Rattle.std.specs.Prelude.{◌≡◌, ◌≢◌, ◌↔◌, None, IfOk, IfSome, IsErrOf, IsSome};
-ghost use Rattle.sccs_base.specs.Name.{IsSfile, z_file};
+ghost use Rattle.sccs_base.specs.Name.{IsSFileName, z_file};
 ghost use Rattle.sccs_disk.specs.Causes.{DiskCauses};
 ghost use Rattle.sccs_disk.specs.Files.{View};
 ghost use Rattle.sccs_disk.specs.Told.{seen};
@@ -53,7 +53,7 @@ pub fn recover_free<D: Disk>(
     disk: &mut D,
     name: &Name,
 ) -> Result<Recovered, StepFault>
-    requires { IsSfile name.now }
+    requires { IsSFileName name.now }
     ensures clean { IfOk result (λ answer. IfSome (seen (D.told disk.old)) (λ (v : View). (answer ≡ Recovered.Clean) ↔ (v (z_file name.now) ≡ None))) }
     ensures checks { IfSome (seen (D.told disk.old)) (λ (v : View). PassesChecks (free_checked name.now v) result) }
     ensures pending { IfSome (seen (D.told disk.old)) (λ (v : View). IsSome (v intent_file) → D.told disk.new ≡ D.told disk.old) }

@@ -1,5 +1,5 @@
 ghost use Rattle.std.specs.Prelude.{◌≡◌, ◌≢◌, All, Some, Ok, Err, IfOk, IfSome, IsErrOf, Option, IsSome};
-ghost use Rattle.sccs_base.specs.Name.{IsSfile, p_file};
+ghost use Rattle.sccs_base.specs.Name.{IsSFileName, p_file};
 ghost use Rattle.sccs_disk.specs.Files.{Content, View};
 ghost use Rattle.sccs_disk.specs.Told.{seen};
 ghost use Rattle.sccs_pfile.specs.Entries.{IsEdit};
@@ -36,7 +36,7 @@ fn read_bytes<D: Disk>(alloc: Global, disk: &mut D, name: &Name) -> Result<Optio
 
 // the bytes of a p-file, where it is there
 fn read_p<D: Disk>(alloc: Global, disk: &mut D, name: &Name) -> Result<Option<Bytes>, StepFault>
-    requires { IsSfile name.now }
+    requires { IsSFileName name.now }
     ensures told { IfSome (seen (D.told disk.old)) (λ (v : View). ReadsOrRefuses (bytes_read (v (p_file name.now))) result) }
     ensures same { D.told disk.new ≡ D.told disk.old }
     ensures causes { DiskCauses (IsErrOf result StepFault.DiskFault) (D.faults disk.old) (D.faults disk.new) }
@@ -130,7 +130,7 @@ fn left_with<D: Disk>(
 /// Reads the s-file and the p-file of a name, where they are there, and answers what recovery makes of
 /// the p-file. The checks come in the order of their numbers.
 pub fn read_left<D: Disk>(alloc: Global, disk: &mut D, name: &Name) -> Result<PfileLeft, StepFault>
-    requires { IsSfile name.now }
+    requires { IsSFileName name.now }
     ensures told { IfSome (seen (D.told disk.old)) (λ (v : View). Finds (v name.now) (v (p_file name.now)) result) }
     ensures entries { IfOk result HasEntries }
     ensures same { D.told disk.new ≡ D.told disk.old }

@@ -1,5 +1,5 @@
 ghost use Rattle.std.specs.Prelude.{◌≡◌, ◌≢◌, ◌↔◌, ◌≤◌, false, Err, None, IfOk, IfSome, IsErrOf, OnErr, OnOk, option_map, IsErr};
-ghost use Rattle.sccs_base.specs.Name.{IsSfile, p_file, q_file, y_file, z_file};
+ghost use Rattle.sccs_base.specs.Name.{IsSFileName, p_file, q_file, y_file, z_file};
 ghost use Rattle.sccs_base.specs.Stream.{Rose};
 ghost use Rattle.sccs_disk.specs.Calls.{IsThere};
 ghost use Rattle.sccs_disk.specs.Files.{View};
@@ -7,7 +7,7 @@ ghost use Rattle.sccs_disk.specs.Images.{IsFirm};
 ghost use Rattle.sccs_disk.specs.Told.{seen};
 ghost use Rattle.sccs_name_files.specs.StepFiles.{AreCleared, Moves, MovesPartly, is_left, is_working};
 ghost use Rattle.sccs_name_files.specs.Touches.{Leaves, TouchesOnly};
-ghost use Rattle.sccs_crash_points.specs.Moments.{LeavesCalm, LeavesFirm, RecoversOn};
+ghost use Rattle.sccs_crash_points.specs.CrashPoints.{LeavesCalm, LeavesFirm, RecoversOn};
 ghost use Rattle.sccs_crash_points.specs.Recovery.{cleared, recover_alone, without_name};
 ghost use Rattle.sccs_crash_points.specs.Unlocked.{KeepsOthers, is_own};
 ghost use Rattle.sccs_sid.specs.declared.refusals.Refusal.{Refusal};
@@ -43,7 +43,7 @@ fn prepare_left<D: Disk>(
     disk: &mut D,
     name: &Name,
 ) -> Result<NewFile, DiskRefusal>
-    requires sfile { IsSfile name.now }
+    requires sfile { IsSFileName name.now }
     requires entries { HasEntries left.now }
     ensures new { IfOk result (λ new. new ≡ new_of left.now) }
     ensures view { OnOk result (PreparesLeft name.now left.now (seen (D.told disk.old)) (seen (D.told disk.new))) }
@@ -64,7 +64,7 @@ fn prepare_left<D: Disk>(
 
 // removes the working files, and prepares what a commit then makes of the p-file
 fn prepare<D: Disk>(left: &PfileLeft, disk: &mut D, name: &Name) -> Result<NewFile, DiskRefusal>
-    requires sfile { IsSfile name.now }
+    requires sfile { IsSFileName name.now }
     requires z { IsThere (z_file name.now) (D.told disk.old) }
     requires entries { HasEntries left.now }
     requires left { IfSome (seen (D.told disk.old)) (λ (v : View). Recovers (v name.now) (v (p_file name.now)) left.now) }
@@ -84,7 +84,7 @@ fn prepare<D: Disk>(left: &PfileLeft, disk: &mut D, name: &Name) -> Result<NewFi
 
 // takes away what was prepared, where memory is wanting
 fn give_up<D: Disk>(disk: &mut D, name: &Name) -> StepFault
-    requires { IsSfile name.now }
+    requires { IsSFileName name.now }
     ensures accepts { (refusal : Refusal) → result ≡ step.Refused refusal → ⊥ }
     ensures moves { Moves (is_working name.now) (λ v. v) (seen (D.told disk.old)) (seen (D.told disk.new)) }
     ensures view { result ≡ step.Memory → Becomes (cleared name.now) (seen (D.told disk.old)) (seen (D.told disk.new)) }
@@ -102,7 +102,7 @@ fn give_up<D: Disk>(disk: &mut D, name: &Name) -> StepFault
 
 // finishes or undoes what a step had begun
 fn finish<D: Disk>(left: &PfileLeft, disk: &mut D, name: &Name) -> Result<(), StepFault>
-    requires sfile { IsSfile name.now }
+    requires sfile { IsSFileName name.now }
     requires z { IsThere (z_file name.now) (D.told disk.old) }
     requires entries { HasEntries left.now }
     requires left { IfSome (seen (D.told disk.old)) (λ (v : View). Recovers (v name.now) (v (p_file name.now)) left.now) }
@@ -131,7 +131,7 @@ fn finish<D: Disk>(left: &PfileLeft, disk: &mut D, name: &Name) -> Result<(), St
 
 // recovers a name whose z-file is there
 fn unlock<D: Disk>(alloc: Global, disk: &mut D, name: &Name) -> Result<(), StepFault>
-    requires sfile { IsSfile name.now }
+    requires sfile { IsSFileName name.now }
     requires z { IsThere (z_file name.now) (D.told disk.old) }
     ensures checks { IfSome (seen (D.told disk.old)) (λ (v : View). PassesChecks (readable (v name.now) (v (p_file name.now))) result) }
     ensures ends { RecoversName name.now (D.told disk.old) (D.told disk.new) (D.faults disk.old) (D.faults disk.new) result }
@@ -144,7 +144,7 @@ fn unlock<D: Disk>(alloc: Global, disk: &mut D, name: &Name) -> Result<(), StepF
 
 // recovers a name whose z-file isn't there: its y-file goes
 fn tidy<D: Disk>(disk: &mut D, name: &Name) -> Result<(), Failed>
-    requires { IsSfile name.now }
+    requires { IsSFileName name.now }
     ensures view { OnOk result (Becomes (without_name (y_file name.now)) (seen (D.told disk.old)) (seen (D.told disk.new))) }
     ensures view_err { OnErr result (Moves (is_working name.now) (λ v. v) (seen (D.told disk.old)) (seen (D.told disk.new))) }
     ensures others { KeepsOthers (is_own name.now) (D.told disk.old) (D.told disk.new) }
@@ -166,7 +166,7 @@ fn tidy<D: Disk>(disk: &mut D, name: &Name) -> Result<(), Failed>
 /// s-files and p-files that a stop could leave at its start, and s-files and p-files stay firm. At Ok the
 /// disk is calm. The checks are made only where the z-file is there, and at a refusal nothing has changed.
 pub fn recover<D: Disk>(alloc: Global, disk: &mut D, name: &Name) -> Result<Recovered, StepFault>
-    requires { IsSfile name.now }
+    requires { IsSFileName name.now }
     ensures clean { IfOk result (λ answer. IfSome (seen (D.told disk.old)) (λ (v : View). (answer ≡ Recovered.Clean) ↔ (v (z_file name.now) ≡ None))) }
     ensures checks { IfSome (seen (D.told disk.old)) (λ (v : View). PassesChecks (checked name.now v) result) }
     ensures ends { RecoversName name.now (D.told disk.old) (D.told disk.new) (D.faults disk.old) (D.faults disk.new) result }

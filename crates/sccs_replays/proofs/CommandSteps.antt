@@ -4,7 +4,7 @@ use Rattle.std.specs.Prelude.{if◌then◌else◌, is_some}
 use Rattle.std.specs.Str.{bytes_eq}
 use Rattle.std.proofs.lemmas.Slice.Eq.{bytes_eq-Decides}
 use Rattle.sccs_base.specs.Login.{IsLogin}
-use Rattle.sccs_base.specs.Name.{IsSfile}
+use Rattle.sccs_base.specs.Name.{IsSFileName}
 use Rattle.sccs_disk.specs.Files.{Content, Folder, view_in}
 use Rattle.sccs_disk.proofs.Puts.{name_cases}
 use Rattle.sccs_sid.specs.Moment.{IsMoment}
@@ -35,7 +35,7 @@ use Rattle.sccs_delta.specs.Replays.{Texts}
 use Rattle.sccs_prs.specs.Keeps.{prs_keeps}
 use Rattle.sccs_val.proofs.RunLaws.{val_keeps}
 use Rattle.sccs_what.specs.Checks.{what_keeps}
-use Rattle.sccs_step_lists.specs.Courses.{no_action}
+use Rattle.sccs_step_lists.specs.StepLists.{no_action}
 use Rattle.sccs_soak.specs.Dropping.{dropping_keeps}
 use Rattle.sccs_top.specs.Runs.{Caller, action_of, admin_there, has_heading, hushed, single_of, val_words_of}
 use Rattle.sccs_replays.specs.PastRuns.{HasVersions, versions_after_command, versions_after_step, versions_after_steps}
@@ -85,7 +85,7 @@ pub command_keeps : (who : Caller) (command : Command) → KeepsFiles (action_of
 command_keeps who command = hushed_keeps (val_words_of command) who.quiet ((single_of command).by who) (by_keeps who command)
 
 -- the s-file of another name stays
-other_stays : (x : Action) (i n : List ℕ) (m : Folder) (t : NamedStep) → KeepsFiles x → IsSfile n → (x.fits t.name ≡ true → IsPlainFor x t.name) → bytes_eq t.name n ≡ false → IsStepOf x i m t
+other_stays : (x : Action) (i n : List ℕ) (m : Folder) (t : NamedStep) → KeepsFiles x → IsSFileName n → (x.fits t.name ≡ true → IsPlainFor x t.name) → bytes_eq t.name n ≡ false → IsStepOf x i m t
     → view_in (moved_in m t.name t.effect.new) n ≡ view_in m n
 other_stays x i n m t keeps sfile plain apart is = stays is.made
   where
@@ -106,7 +106,7 @@ own_goes who command i m t texts moment login values is = goes is.made
     goes (inl none) = subst (λ (new : Option Files). Goes (view_in m t.name) new texts (versions_after_command who command i m t.name texts)) (sym none) (λ are. are)
     goes (inr made) = command_goes who command i t.name m texts t.effect moment login values made.made
 
-pub step_goes : (who : Caller) (command : Command) (i n : List ℕ) (m : Folder) (t : NamedStep) (texts : Texts) → IsSfile n → IsMoment who.stamp.moment → IsLogin who.stamp.login → HasMeantValues command
+pub step_goes : (who : Caller) (command : Command) (i n : List ℕ) (m : Folder) (t : NamedStep) (texts : Texts) → IsSFileName n → IsMoment who.stamp.moment → IsLogin who.stamp.login → HasMeantValues command
     → ((action_of who command).fits t.name ≡ true → IsPlainFor (action_of who command) t.name) → IsStepOf (action_of who command) i m t
     → HasVersions (view_in m n) texts → HasVersions (view_in (step_in m t) n) (versions_after_step who command i n m t texts)
 step_goes who command i n m t texts sfile moment login values plain is are =
@@ -132,7 +132,7 @@ step_goes who command i n m t texts sfile moment login values plain is are =
 -- ---- steps, and runs
 
 -- those of a command that only makes the steps of its operands
-pub steps_go : (who : Caller) (command : Command) (i n : List ℕ) (m : Folder) (ts : List NamedStep) (texts : Texts) → IsSfile n → IsMoment who.stamp.moment → IsLogin who.stamp.login → HasMeantValues command
+pub steps_go : (who : Caller) (command : Command) (i n : List ℕ) (m : Folder) (ts : List NamedStep) (texts : Texts) → IsSFileName n → IsMoment who.stamp.moment → IsLogin who.stamp.login → HasMeantValues command
     → ArePlain (action_of who command) ts → AreStepsOf (action_of who command) i m ts
     → HasVersions (view_in m n) texts → HasVersions (view_in (folder_after m ts) n) (versions_after_steps None who command i n m ts texts)
 steps_go who command i n m [] texts sfile moment login values plain are has = has

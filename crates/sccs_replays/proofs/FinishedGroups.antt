@@ -4,13 +4,13 @@ use Rattle.std.specs.Prelude.{if◌then◌else◌, find, option_map}
 use Rattle.std.specs.List.{AllByRecursion}
 use Rattle.std.specs.Str.{bytes_eq}
 use Rattle.sccs_base.specs.Login.{IsLogin}
-use Rattle.sccs_base.specs.Name.{IsSfile}
+use Rattle.sccs_base.specs.Name.{IsSFileName}
 use Rattle.sccs_disk.specs.Files.{Folder, View, view_in}
 use Rattle.sccs_sid.specs.Moment.{IsMoment}
 use Rattle.sccs_name_files.specs.StepFiles.{Files, moved, moved_in}
 use Rattle.sccs_name_files.proofs.Folders.{moved_view}
 use Rattle.sccs_intents.specs.Intents.{entries_in, fate_in, intent_file}
-use Rattle.sccs_intents.specs.declared.intents.Entry.{Entry}
+use Rattle.sccs_intents.specs.declared.intents.IntentEntry.{IntentEntry}
 use Rattle.sccs_crash_points.specs.Recovery.{fate_at, is_kept}
 use Rattle.sccs_crash_points.proofs.FileNames.{intent_and_sfile}
 use Rattle.sccs_words.specs.declared.commands.Command.{Command}
@@ -30,18 +30,18 @@ use Rattle.sccs_top.proofs.FinishedRuns.{finisher, Recovers}
 
 -- ---- the step that finishes a group
 
-is_other : (e : Entry) (es : List Entry) (n : List ℕ) → fate_in (e ∷ es) n ≡ None → (bytes_eq e.name n ≡ false) × (fate_in es n ≡ None)
+is_other : (e : IntentEntry) (es : List IntentEntry) (n : List ℕ) → fate_in (e ∷ es) n ≡ None → (bytes_eq e.name n ≡ false) × (fate_in es n ≡ None)
 is_other e es n none = by (bytes_eq e.name n) refl
   where
-    found : (b : Bool) → bytes_eq e.name n ≡ b → option_map (λ (x : Entry). x.fate) (if b then Some e else find (λ (x : Entry). bytes_eq x.name n) es) ≡ None
-    found b is = ap (λ (t : Bool). option_map (λ (x : Entry). x.fate) (if t then Some e else find (λ (x : Entry). bytes_eq x.name n) es)) (sym is) ∙ none
+    found : (b : Bool) → bytes_eq e.name n ≡ b → option_map (λ (x : IntentEntry). x.fate) (if b then Some e else find (λ (x : IntentEntry). bytes_eq x.name n) es) ≡ None
+    found b is = ap (λ (t : Bool). option_map (λ (x : IntentEntry). x.fate) (if t then Some e else find (λ (x : IntentEntry). bytes_eq x.name n) es)) (sym is) ∙ none
 
     by : (b : Bool) → bytes_eq e.name n ≡ b → (bytes_eq e.name n ≡ false) × (fate_in es n ≡ None)
     by true is = absurd (let no : Some e.fate ≡ None = found true is in cc)
     by false is = (is, found false is)
 
 -- the names of an intent are others
-names_leave : (n : List ℕ) (m : Folder) (v : View) (es : List Entry) → IsSfile n → AllByRecursion (λ (e : Entry). is_kept (drop 2 e.name) ≡ false) es → fate_in es n ≡ None
+names_leave : (n : List ℕ) (m : Folder) (v : View) (es : List IntentEntry) → IsSFileName n → AllByRecursion (λ (e : IntentEntry). is_kept (drop 2 e.name) ≡ false) es → fate_in es n ≡ None
     → view_in m ≡ v → view_in (all_moved_in m (name_moves v es)) n ≡ view_in m n
 names_leave n m v [] sfile plain none is = refl
 names_leave n m v (e ∷ es) sfile plain none is =
@@ -50,7 +50,7 @@ names_leave n m v (e ∷ es) sfile plain none is =
     names_leave n (moved_in m e.name new) (moved v e.name new) es sfile plain.1 other.1 (moved_view m e.name new ∙ ap (λ (u : View). moved u e.name new) is)
     ∙ other_file m e.name n new sfile plain.0 other.0
 
-finishing_leaves : (n : List ℕ) (m : Folder) → IsSfile n → AllByRecursion (λ (e : Entry). is_kept (drop 2 e.name) ≡ false) (entries_in (view_in m intent_file)) → fate_at (view_in m) n ≡ None
+finishing_leaves : (n : List ℕ) (m : Folder) → IsSFileName n → AllByRecursion (λ (e : IntentEntry). is_kept (drop 2 e.name) ≡ false) (entries_in (view_in m intent_file)) → fate_at (view_in m) n ≡ None
     → view_in (step_in m (finishing_step (view_in m))) n ≡ view_in m n
 finishing_leaves n m sfile plain none =
     let taken = intent_taken (view_in m) in
@@ -73,7 +73,7 @@ finishing_stays who command i n m [] texts = refl
 finishing_stays who command i n m (t ∷ ts) texts = finishing_stays who command i n (step_in m t) ts texts
 
 -- the operands behind it
-operands_go : (who : Caller) (command : Command) (i n : List ℕ) (m : Folder) (ts : List NamedStep) (texts : Texts) → group_use command ≡ Some uses.Finishes → IsSfile n → IsMoment who.stamp.moment → IsLogin who.stamp.login
+operands_go : (who : Caller) (command : Command) (i n : List ℕ) (m : Folder) (ts : List NamedStep) (texts : Texts) → group_use command ≡ Some uses.Finishes → IsSFileName n → IsMoment who.stamp.moment → IsLogin who.stamp.login
     → ArePlain (action_of who command) ts → AreStepsOf (action_of who command) i m ts → HasVersions (view_in m n) texts → HasVersions (view_in (folder_after m ts) n) texts
 operands_go who command i n m ts texts is sfile moment login plain are has =
     let recovers : Recovers command = finisher command is in
@@ -81,8 +81,8 @@ operands_go who command i n m ts texts is sfile moment login plain are has =
     (steps_go who (c.Recover recovers.0) i n m ts texts sfile moment login tt
     (subst (λ (x : Command). ArePlain (action_of who x) ts) recovers.1 plain) (subst (λ (x : Command). AreStepsOf (action_of who x) i m ts) recovers.1 are) has)
 
-pub finishing_goes : (who : Caller) (command : Command) (i n : List ℕ) (m : Folder) (made : ℕ) (ts : List NamedStep) (texts : Texts) → group_use command ≡ Some uses.Finishes → IsSfile n → IsMoment who.stamp.moment → IsLogin who.stamp.login
-    → AllByRecursion (λ (e : Entry). is_kept (drop 2 e.name) ≡ false) (entries_in (view_in m intent_file)) → fate_at (view_in m) n ≡ None
+pub finishing_goes : (who : Caller) (command : Command) (i n : List ℕ) (m : Folder) (made : ℕ) (ts : List NamedStep) (texts : Texts) → group_use command ≡ Some uses.Finishes → IsSFileName n → IsMoment who.stamp.moment → IsLogin who.stamp.login
+    → AllByRecursion (λ (e : IntentEntry). is_kept (drop 2 e.name) ≡ false) (entries_in (view_in m intent_file)) → fate_at (view_in m) n ≡ None
     → ArePlain (action_of who command) (take (made) ts) → AreStepsOf (action_of who command) i (step_in m (finishing_step (view_in m))) (take made ts)
     → HasVersions (view_in m n) texts → HasVersions (view_in (folder_after (step_in m (finishing_step (view_in m))) (take made ts)) n) texts
 finishing_goes who command i n m made ts texts is sfile moment login names none plain are has =

@@ -5,7 +5,7 @@ use Rattle.std.specs.List.{AllByRecursion}
 use Rattle.sccs_base.specs.Constants.{file_limit}
 use Rattle.sccs_base.specs.Cut.{text_of}
 use Rattle.sccs_base.specs.Login.{IsLogin}
-use Rattle.sccs_base.specs.Name.{IsSfile, is_sfile_name}
+use Rattle.sccs_base.specs.Name.{IsSFileName, is_sfile_name}
 use Rattle.sccs_disk.specs.Files.{Folder, view_in, View}
 use Rattle.sccs_sid.specs.Moment.{IsMoment}
 use Rattle.sccs_sid.specs.Refusal.{refusal_line}
@@ -16,7 +16,7 @@ use Rattle.sccs_name_files.specs.StepFiles.{look, moved_in, moved}
 use Rattle.sccs_steps.specs.StepLists.{NamedStep, folder_after, Move, all_moved_in, moves_of, named_step, step_in}
 use Rattle.sccs_delta.specs.DeltaStep.{delta_change}
 use Rattle.sccs_delta.specs.Replays.{Texts}
-use Rattle.sccs_step_lists.specs.Courses.{Courses, said, saying, steps_along}
+use Rattle.sccs_step_lists.specs.StepLists.{StepLists, said, saying, steps_along}
 use Rattle.sccs_top.specs.Runs.{Caller, action_of, caller}
 use Rattle.sccs_replays.specs.PastRuns.{HasVersions, versions_after_step, versions_after_steps, deltas_in, deltas_read, group_entries, entries_read, versions_after_deltas, versions_with}
 use Rattle.sccs_replays.proofs.MadeSteps.{IsStepOf}
@@ -31,7 +31,7 @@ use Rattle.sccs_changes.specs.Changes.{locking_step}
 use Rattle.sccs_group_command.specs.GroupText.{group_of}
 use Rattle.sccs_group_command.specs.declared.entries.GroupEntry.{GroupEntry}
 use Rattle.sccs_group_command.specs.GroupStep.{EntrySteps, entry_outcome, entry_steps, go_on, group_step, joined, joint_step, names_of, put_first, refused_step, unmoved}
-use Rattle.sccs_group_command.specs.GroupCourses.{bad_line, group_course, read_course}
+use Rattle.sccs_group_command.specs.GroupStepLists.{bad_line, group_step_list, read_step_list}
 use Rattle.sccs_top.specs.declared.commands.GroupUse.TheVariants as uses
 use Rattle.sccs_replays.proofs.CommandSteps.{step_goes}
 
@@ -71,7 +71,7 @@ module _ (who : Caller) (n : List ℕ) where
   OthersGo m e es texts = (d : StepEffect) (us : List NamedStep) → (let u : Folder = step_in m (named_step e.name (Ok d)) in AllByRecursion OnePlain us → entry_steps who.stamp (view_in u) es ≡ Ok us
       → HasVersions (view_in u n) (texts_after m e d texts) → HasVersions (view_in (folder_after u us) n) (versions_after_deltas who n u es us (texts_after m e d texts)))
 
-  first_goes : (m : Folder) (e : GroupEntry) (es : List GroupEntry) (ts : List NamedStep) (texts : Texts) → IsSfile n → IsMoment who.stamp.moment → IsLogin who.stamp.login
+  first_goes : (m : Folder) (e : GroupEntry) (es : List GroupEntry) (ts : List NamedStep) (texts : Texts) → IsSFileName n → IsMoment who.stamp.moment → IsLogin who.stamp.login
       → HasMeantValues (c.Delta e.words e.name) → AllByRecursion OnePlain ts → entry_steps who.stamp (view_in m) (e ∷ es) ≡ Ok ts
       → HasVersions (view_in m n) texts → OthersGo m e es texts → HasVersions (view_in (folder_after m ts) n) (versions_after_deltas who n m (e ∷ es) ts texts)
   first_goes m e es ts texts sfile moment login values plain is has others = by (entry_outcome who.stamp (view_in m) e) refl
@@ -103,7 +103,7 @@ module _ (who : Caller) (n : List ℕ) where
               both_plain = subst (AllByRecursion OnePlain) (sym same) plain
 
 -- those of a group's deltas
-deltas_go : (who : Caller) (n : List ℕ) (m : Folder) (es : List GroupEntry) (ts : List NamedStep) (texts : Texts) → IsSfile n → IsMoment who.stamp.moment → IsLogin who.stamp.login
+deltas_go : (who : Caller) (n : List ℕ) (m : Folder) (es : List GroupEntry) (ts : List NamedStep) (texts : Texts) → IsSFileName n → IsMoment who.stamp.moment → IsLogin who.stamp.login
     → AllByRecursion (λ (e : GroupEntry). HasMeantValues (c.Delta e.words e.name)) es → AllByRecursion (λ (t : NamedStep). is_kept (drop 2 t.name) ≡ false) ts → entry_steps who.stamp (view_in m) es ≡ Ok ts
     → HasVersions (view_in m n) texts → HasVersions (view_in (folder_after m ts) n) (versions_after_deltas who n m es ts texts)
 deltas_go who n m [] ts texts sfile moment login values plain is has = subst (λ (us : List NamedStep). HasVersions (view_in (folder_after m us) n) texts) (let same : [] ≡ ts = cc in same) has
@@ -145,7 +145,7 @@ joint_goes who i n m [] command texts goes has = has
 joint_goes who i n m (t ∷ ts) command texts goes has =
     subst (λ (u : Folder). HasVersions (view_in u n) (versions_after_deltas who n m (group_entries i) (deltas_in who m (group_entries i)) texts)) (sym (moves_after m (t ∷ ts))) (goes has)
 
-group_step_goes : (who : Caller) (i n : List ℕ) (m : Folder) (entries : List GroupEntry) (command : Command) (texts : Texts) → IsSfile n → IsMoment who.stamp.moment → IsLogin who.stamp.login
+group_step_goes : (who : Caller) (i n : List ℕ) (m : Folder) (entries : List GroupEntry) (command : Command) (texts : Texts) → IsSFileName n → IsMoment who.stamp.moment → IsLogin who.stamp.login
     → group_entries i ≡ entries → AllByRecursion (λ (e : GroupEntry). HasMeantValues (c.Delta e.words e.name)) entries
     → AllByRecursion (λ (t : NamedStep). is_kept (drop 2 t.name) ≡ false) (deltas_in who m (group_entries i)) → HasVersions (view_in m n) texts
     → HasVersions (view_in (step_in m (group_step who.stamp (view_in m) entries)) n) (versions_with (Some uses.Makes) who command i n m (group_step who.stamp (view_in m) entries) texts)
@@ -171,14 +171,14 @@ group_step_goes who i n m entries command texts sfile moment login read values p
     by_intent true = refused_goes who i n m (names_of entries) (codes "-") GroupPending command texts has
     by_intent false = by_steps (entry_steps who.stamp (view_in m) entries) refl
 
--- the steps of a group's course, as far as they are made
-pub group_goes : (who : Caller) (i n : List ℕ) (m : Folder) (made : ℕ) (command : Command) (texts : Texts) → IsSfile n → IsMoment who.stamp.moment → IsLogin who.stamp.login
+-- the steps of a group's list of steps, as far as they are made
+pub group_goes : (who : Caller) (i n : List ℕ) (m : Folder) (made : ℕ) (command : Command) (texts : Texts) → IsSFileName n → IsMoment who.stamp.moment → IsLogin who.stamp.login
     → AllByRecursion (λ (t : NamedStep). is_kept (drop 2 t.name) ≡ false) (deltas_in who m (group_entries i)) → HasVersions (view_in m n) texts
-    → HasVersions (view_in (folder_after m (take made (steps_along (group_course who.stamp) m i))) n) (versions_after_steps (Some uses.Makes) who command i n m (take made (steps_along (group_course who.stamp) m i)) texts)
+    → HasVersions (view_in (folder_after m (take made (steps_along (group_step_list who.stamp) m i))) n) (versions_after_steps (Some uses.Makes) who command i n m (take made (steps_along (group_step_list who.stamp) m i)) texts)
 group_goes who i n m made command texts sfile moment login plain has = by_length (nat_lt file_limit (length i))
   where
-    GoesAlong : Courses → Type 0
-    GoesAlong course = HasVersions (view_in (folder_after m (take made (steps_along course m i))) n) (versions_after_steps (Some uses.Makes) who command i n m (take made (steps_along course m i)) texts)
+    GoesAlong : StepLists → Type 0
+    GoesAlong step_list = HasVersions (view_in (folder_after m (take made (steps_along step_list m i))) n) (versions_after_steps (Some uses.Makes) who command i n m (take made (steps_along step_list m i)) texts)
 
     said_goes : (count : ℕ) (out err : List ℕ) → HasVersions (view_in (folder_after m (take count (said out err ∷ []))) n) (versions_after_steps (Some uses.Makes) who command i n m (take count (said out err ∷ [])) texts)
     said_goes zero out err = has
@@ -191,10 +191,10 @@ group_goes who i n m made command texts sfile moment login plain has = by_length
     one_goes (suc zero) entries read values = group_step_goes who i n m entries command texts sfile moment login read values plain has
     one_goes (suc (suc count)) entries read values = group_step_goes who i n m entries command texts sfile moment login read values plain has
 
-    by_entries : (read : Result (List GroupEntry) ℕ) → group_of (text_of i) ≡ read → GoesAlong (read_course who.stamp read)
+    by_entries : (read : Result (List GroupEntry) ℕ) → group_of (text_of i) ≡ read → GoesAlong (read_step_list who.stamp read)
     by_entries (Err number) is = said_goes made [] (bad_line number)
     by_entries (Ok entries) is = one_goes made entries (ap entries_read is) (group_values (text_of i) entries is)
 
-    by_length : (long : Bool) → GoesAlong (λ folder input. (if long then saying [] (refusal_line (codes "-") TooLong) 1 else read_course who.stamp (group_of (text_of i))) folder input)
+    by_length : (long : Bool) → GoesAlong (λ folder input. (if long then saying [] (refusal_line (codes "-") TooLong) 1 else read_step_list who.stamp (group_of (text_of i))) folder input)
     by_length true = said_goes made [] (refusal_line (codes "-") TooLong)
     by_length false = by_entries (group_of (text_of i)) refl

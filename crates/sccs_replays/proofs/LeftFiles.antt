@@ -2,7 +2,7 @@
 use Rattle.std.proofs.Common.{◌≡◌, ℕ, Bool, true, false, List, drop, Option, None, Some, Result, Ok, Err, refl, ap, subst, ◌∙◌}
 use Rattle.std.specs.Prelude.{if◌then◌else◌, is_none, is_some, unwrap_or}
 use Rattle.std.specs.Str.{bytes_eq}
-use Rattle.sccs_base.specs.Name.{IsSfile, p_file, z_file}
+use Rattle.sccs_base.specs.Name.{IsSFileName, p_file, z_file}
 use Rattle.sccs_disk.specs.Files.{Content, Folder, View, put, view_in}
 use Rattle.sccs_disk.proofs.Puts.{put_other, put_same}
 use Rattle.sccs_sid.specs.Reading.{◌>>=◌}
@@ -108,7 +108,7 @@ own_file m n (Some f) =
     ∙ put_same (put (put (put (put (view_in m) (l_file n) f.l) (z_file n) f.z) (drop 2 n) f.g) (p_file n) f.p) n f.s
 
 -- that of another name
-pub other_file : (m : Folder) (k n : List ℕ) (new : Option Files) → IsSfile n → is_kept (drop 2 k) ≡ false → bytes_eq k n ≡ false → view_in (moved_in m k new) n ≡ view_in m n
+pub other_file : (m : Folder) (k n : List ℕ) (new : Option Files) → IsSFileName n → is_kept (drop 2 k) ≡ false → bytes_eq k n ≡ false → view_in (moved_in m k new) n ≡ view_in m n
 other_file m k n None sfile plain apart = refl
 other_file m k n (Some f) sfile plain apart =
     let l : View = put (view_in m) (l_file k) f.l in

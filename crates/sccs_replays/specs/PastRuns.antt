@@ -16,13 +16,13 @@ use Rattle.sccs_history.specs.Numbers.{has}
 use Rattle.sccs_grammar.specs.File.{IsSFile, Parsed}
 use Rattle.sccs_name_files.specs.StepFiles.{l_file}
 use Rattle.sccs_intents.specs.Intents as intents
-use Rattle.sccs_intents.specs.declared.intents.Entry as intended
+use Rattle.sccs_intents.specs.declared.intents.IntentEntry as intended
 use Rattle.sccs_crash_points.specs.Recovery.{fate_at, is_kept}
 use Rattle.sccs_steps.specs.StepLists.{NamedStep, folder_after, step_in}
 use Rattle.sccs_steps.specs.Unlocked.{ArePlain}
-use Rattle.sccs_step_lists.specs.Courses.{steps_along}
+use Rattle.sccs_step_lists.specs.StepLists.{steps_along}
 use Rattle.sccs_batch.specs.BatchText.{batch_of}
-use Rattle.sccs_batch.specs.declared.entries.Entry.{Entry}
+use Rattle.sccs_batch.specs.declared.entries.BatchEntry.{BatchEntry}
 use Rattle.sccs_words.specs.Meaning.{meaning}
 use Rattle.sccs_words.specs.declared.commands.Command.{Command}
 use Rattle.sccs_words.specs.declared.commands.Command.TheVariants as c
@@ -41,7 +41,7 @@ use Rattle.sccs_top.specs.Asked.{asked_of}
 use Rattle.sccs_group_command.specs.GroupText.{group_of}
 use Rattle.sccs_group_command.specs.declared.entries.GroupEntry.{GroupEntry}
 use Rattle.sccs_group_command.specs.GroupStep.{EntrySteps, entry_steps}
-use Rattle.sccs_top.specs.Runs.{Caller, action_of, caller, caller_by, command_steps, course_with, entry_command, freed_at, freeing, group_use, list_in, meant_course, run_steps}
+use Rattle.sccs_top.specs.Runs.{Caller, action_of, caller, caller_by, command_steps, step_list_with, entry_command, freed_at, freeing, group_use, list_in, meant_step_list, run_steps}
 use Rattle.sccs_top.specs.declared.commands.GroupUse.{GroupUse}
 use Rattle.sccs_top.specs.declared.commands.GroupUse.TheVariants as uses
 use Rattle.sccs_top.specs.declared.commands.CommandList.{CommandList}
@@ -71,7 +71,7 @@ abbrev pub single_steps : PastRun → Result Command Usage → List NamedStep
 single_steps r meant = take r.made (command_steps r.who meant r.folder r.input)
 
 -- a command of a list as a run of its own, in the folder at a path
-abbrev pub entry_run : Bool → List ℕ → Folder → ℕ → Entry → PastRun
+abbrev pub entry_run : Bool → List ℕ → Folder → ℕ → BatchEntry → PastRun
 entry_run quiet place m made e = record { folder = m; who = caller_by quiet e.stamp place; words = e.words; input = e.input; made = made }
 
 abbrev pub steps_of_entry : PastRun → List NamedStep
@@ -79,14 +79,14 @@ steps_of_entry r = command_steps r.who (meaning r.words) r.folder r.input
 
 -- the entries of a batch as runs, one after the other, of which so many steps are made in all; that the status of each is written
 -- is a step too
-abbrev pub entry_runs : List ℕ → Folder → ℕ → List Entry → List PastRun
+abbrev pub entry_runs : List ℕ → Folder → ℕ → List BatchEntry → List PastRun
 entry_runs place m made [] = []
 entry_runs place m made (e ∷ es) =
     let r = entry_run false place m made e in
     r ∷ entry_runs place (folder_after m (single_steps r (meaning e.words))) (made - suc (length (steps_of_entry r))) es
 
 -- the commands of a soak as runs, up to the first whose status isn't 0; that the words of each are made is a step too
-abbrev pub soak_runs : List ℕ → Folder → ℕ → List Entry → List PastRun
+abbrev pub soak_runs : List ℕ → Folder → ℕ → List BatchEntry → List PastRun
 soak_runs place m made [] = []
 soak_runs place m made (e ∷ es) =
     let r = entry_run true place m (made - 1) e in
@@ -112,7 +112,7 @@ abbrev pub first_run : PastRun → List (List ℕ) → PastRun
 first_run r first = record { folder = r.folder; who = r.who; words = first; input = r.input; made = r.made }
 
 abbrev pub steps_meant : PastRun → List NamedStep
-steps_meant r = steps_along (meant_course r.who (meaning r.words)) r.folder r.input
+steps_meant r = steps_along (meant_step_list r.who (meaning r.words)) r.folder r.input
 
 abbrev pub next_run : PastRun → List (List ℕ) → PastRun
 next_run r next = record { folder = folder_after r.folder (take r.made (steps_meant r)); who = r.who; words = next; input = []; made = r.made - length (steps_meant r) }
@@ -122,7 +122,7 @@ abbrev pub commands_listed : PastRun → List (List (List ℕ)) → List PastRun
 commands_listed r [] = commands_meant r
 commands_listed r (first ∷ []) = commands_meant (first_run r first)
 commands_listed r (first ∷ next ∷ rest) =
-    commands_meant (first_run r first) ++ (if (meant_course r.who (meaning first) r.folder r.input).status == 0 then commands_meant (next_run (first_run r first) next) else [])
+    commands_meant (first_run r first) ++ (if (meant_step_list r.who (meaning first) r.folder r.input).status == 0 then commands_meant (next_run (first_run r first) next) else [])
 
 abbrev pub commands_of : PastRun → List PastRun
 commands_of r = commands_listed r (front_of r.words)
@@ -147,14 +147,14 @@ deltas_in who m entries = deltas_read (entry_steps who.stamp (view_in m) entries
 
 -- the steps of a run that is a command, as far as they are made
 abbrev pub steps_with : Option GroupUse → PastRun → Command → List NamedStep
-steps_with group r command = take r.made (steps_along (course_with group r.who command) r.folder r.input)
+steps_with group r command = take r.made (steps_along (step_list_with group r.who command) r.folder r.input)
 
 -- where a command changes files no g-file has the name of an s-file, p-file or z-file
 abbrev pub IsPlainWith : Option GroupUse → PastRun → Command → Type 0
 IsPlainWith None r command = ArePlain (action_of r.who command) (steps_with None r command)
 IsPlainWith (Some uses.Makes) r command = AllByRecursion (λ (t : NamedStep). is_kept (drop 2 t.name) ≡ false) (deltas_in r.who r.folder (group_entries r.input))
 IsPlainWith (Some uses.Finishes) r command =
-    AllByRecursion (λ (e : intended.Entry). is_kept (drop 2 e.name) ≡ false) (intents.entries_in (view_in r.folder intents.intent_file))
+    AllByRecursion (λ (e : intended.IntentEntry). is_kept (drop 2 e.name) ≡ false) (intents.entries_in (view_in r.folder intents.intent_file))
     × ArePlain (action_of (freeing r.who (freed_at r.folder)) command) (drop 1 (steps_with (Some uses.Finishes) r command))
 
 -- a recover that finishes a group is the start of the files of its names

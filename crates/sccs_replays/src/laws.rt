@@ -1,6 +1,6 @@
 ghost use Rattle.std.specs.Prelude.{ℕ, List, Option};
 ghost use Rattle.std.specs.List.{AllByRecursion};
-ghost use Rattle.sccs_base.specs.Name.{IsSfile};
+ghost use Rattle.sccs_base.specs.Name.{IsSFileName};
 ghost use Rattle.sccs_disk.specs.Files.{Content};
 ghost use Rattle.sccs_delta.specs.Replays.{Texts};
 ghost use Rattle.sccs_replays.specs.PastRuns.{AreInTurn, HasVersions, IsPastRun, PastRun, replay, s_file_after};
@@ -11,6 +11,6 @@ ghost use Rattle.sccs_replays.specs.PastRuns.{AreInTurn, HasVersions, IsPastRun,
 /// recover finishes the start is behind that recover. POSIX, Shell and Utilities, admin and delta.
 pub fn runs_replay()
     ensures { (n : List ℕ) (s : Option Content) (texts : Texts) (runs : List PastRun)
-        → IsSfile n → AllByRecursion (IsPastRun n) runs → AreInTurn n s runs → HasVersions s texts
+        → IsSFileName n → AllByRecursion (IsPastRun n) runs → AreInTurn n s runs → HasVersions s texts
         → HasVersions (s_file_after n s runs) (replay n texts runs) }
 {}

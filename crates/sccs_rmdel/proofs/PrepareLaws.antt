@@ -2,7 +2,7 @@
 use Rattle.std.proofs.Common.{◌≡◌, ℕ, List, [], drop, Option, None, Some, Result, Ok, Err, refl, sym, ap, subst, ◌∙◌}
 use Rattle.std.specs.Prelude.{IfOk, IfSome}
 use Rattle.std.specs.Str.{bytes_eq}
-use Rattle.sccs_base.specs.Name.{IsSfile, p_file, q_file, x_file, y_file, z_file}
+use Rattle.sccs_base.specs.Name.{IsSFileName, p_file, q_file, x_file, y_file, z_file}
 use Rattle.sccs_base.proofs.Gifts.{gives_none, some_none}
 use Rattle.sccs_disk.specs.Calls.{IsThere}
 use Rattle.sccs_disk.specs.Files.{Content, View, put}
@@ -62,7 +62,7 @@ outcome_is sid stamp n i named f = refl
 
 -- ---- the files as they were before the lock
 
-outcome_seen : (sid : Sid) (stamp : Stamp) (n i : List ℕ) (named : List (Option Content)) (v : View) (r : Result Found Refusal) → IsSfile n → pending_of (v n) (v (p_file n)) ≡ r → rmdel_outcome sid stamp n i named (files_at n v) ≡ by_files sid stamp (files_at n v) r
+outcome_seen : (sid : Sid) (stamp : Stamp) (n i : List ℕ) (named : List (Option Content)) (v : View) (r : Result Found Refusal) → IsSFileName n → pending_of (v n) (v (p_file n)) ≡ r → rmdel_outcome sid stamp n i named (files_at n v) ≡ by_files sid stamp (files_at n v) r
 outcome_seen sid stamp n i named v r sfile is = outcome_is sid stamp n i named (files_at n v) ∙ ap (by_files sid stamp (files_at n v)) (pending_seen n v sfile ∙ is)
 
 -- ---- an end before the file is written
@@ -74,7 +74,7 @@ unmade : (n text : List ℕ) (v : View) (o2 : Option View) (out err : Option (Li
 unmade n text v o2 out err moves = record { view = moves_wider (bytes_eq (x_file n)) (is_working n) (Some v) o2 (no_x n) moves; out = some_none out text }
 
 -- the files aren't read
-pub unread : (sid : Sid) (stamp : Stamp) (fault : StepFault) (n : List ℕ) (left : Option (List ℕ)) (o o2 : Option View) (out err : Option (List ℕ)) → IsSfile n → o2 ≡ o → IfSome o (λ (v : View). AnswersPending (v n) (v (p_file n)) (Err fault))
+pub unread : (sid : Sid) (stamp : Stamp) (fault : StepFault) (n : List ℕ) (left : Option (List ℕ)) (o o2 : Option View) (out err : Option (List ℕ)) → IsSFileName n → o2 ≡ o → IfSome o (λ (v : View). AnswersPending (v n) (v (p_file n)) (Err fault))
     → PreparesChange (rmdel_change sid stamp) (Err fault) n left (world o out err) (world o2 out err)
 unread sid stamp fault n left None o2 out err sfile same answers = tt
 unread sid stamp fault n left (Some v) o2 out err sfile same answers = λ i heard.
@@ -82,7 +82,7 @@ unread sid stamp fault n left (Some v) o2 out err sfile same answers = λ i hear
 
 -- ---- what was read
 
-removable_at : (sid : Sid) (stamp : Stamp) (n i : List ℕ) (v : View) (x : Pending) (r : Result Record Refusal) (read : IsRead n v x) → IsSfile n → removable sid stamp x.front.header x.edits ≡ r
+removable_at : (sid : Sid) (stamp : Stamp) (n i : List ℕ) (v : View) (x : Pending) (r : Result Record Refusal) (read : IsRead n v x) → IsSFileName n → removable sid stamp x.front.header x.edits ≡ r
     → rmdel_outcome sid stamp n i [] (files_at n v) ≡ (r >>= with_delta (files_at n v) (found_of n v x read))
 removable_at sid stamp n i v x r read sfile is =
     outcome_seen sid stamp n i [] v _ sfile read.2
@@ -96,7 +96,7 @@ finds_answers sid stamp header edits WriteFault finds = finds
 finds_answers sid stamp header edits DiskFault finds = absurd finds
 
 -- no delta may be removed
-pub unremovable : (sid : Sid) (stamp : Stamp) (fault : StepFault) (n : List ℕ) (x : Pending) (left : Option (List ℕ)) (o o2 : Option View) (out err : Option (List ℕ)) → IsSfile n → o2 ≡ o → IfSome o (λ (v : View). IsRead n v x) → FindsRemovable sid stamp x.front.header x.edits (Err fault)
+pub unremovable : (sid : Sid) (stamp : Stamp) (fault : StepFault) (n : List ℕ) (x : Pending) (left : Option (List ℕ)) (o o2 : Option View) (out err : Option (List ℕ)) → IsSFileName n → o2 ≡ o → IfSome o (λ (v : View). IsRead n v x) → FindsRemovable sid stamp x.front.header x.edits (Err fault)
     → PreparesChange (rmdel_change sid stamp) (Err fault) n left (world o out err) (world o2 out err)
 unremovable sid stamp fault n x left None o2 out err sfile same read finds = tt
 unremovable sid stamp fault n x left (Some v) o2 out err sfile same read finds = λ i heard.
@@ -108,7 +108,7 @@ unremovable sid stamp fault n x left (Some v) o2 out err sfile same read finds =
 abbrev files_of : Option Content → Option Content → Option Content → Option Content → Option Files
 files_of s p g l = Some (record { s = s; p = p; z = None; g = g; l = l })
 
-new_files : (n : List ℕ) (c : Content) (v : View) (p : Prepared) → IsSfile n → IsRewrite p → files_of (Some c) (unlocked n v (p_file n)) (unlocked n v (drop 2 n)) (unlocked n v (l_file n)) ≡ Some (files_after n (plan_of p) (put v (x_file n) (Some c)))
+new_files : (n : List ℕ) (c : Content) (v : View) (p : Prepared) → IsSFileName n → IsRewrite p → files_of (Some c) (unlocked n v (p_file n)) (unlocked n v (drop 2 n)) (unlocked n v (l_file n)) ≡ Some (files_after n (plan_of p) (put v (x_file n) (Some c)))
 new_files n c v p sfile new =
     ap (λ (o : Option Content). files_of (Some c) o (unlocked n v (drop 2 n)) (unlocked n v (l_file n))) (put_other v (z_file n) (p_file n) None refl ∙ sym (put_other v (x_file n) (p_file n) (Some c) refl))
     ∙ (ap (λ (o : Option Content). files_of (Some c) (u (p_file n)) o (unlocked n v (l_file n))) (put_other v (z_file n) (drop 2 n) None (from_g 122 n sfile) ∙ sym (put_other v (x_file n) (drop 2 n) (Some c) (from_g 120 n sfile)))
@@ -121,7 +121,7 @@ new_files n c v p sfile new =
     u : View
     u = put v (x_file n) (Some c)
 
-removed_at : (sid : Sid) (stamp : Stamp) (n i : List ℕ) (x : Pending) (serial : ℕ) (r : Result Prepared StepFault) (v : View) (o2 : Option View) (out err : Option (List ℕ)) → IsSfile n → (read : IsRead n v x) → FindsRemovable sid stamp x.front.header x.edits (Ok serial)
+removed_at : (sid : Sid) (stamp : Stamp) (n i : List ℕ) (x : Pending) (serial : ℕ) (r : Result Prepared StepFault) (v : View) (o2 : Option View) (out err : Option (List ℕ)) → IsSFileName n → (read : IsRead n v x) → FindsRemovable sid stamp x.front.header x.edits (Ok serial)
     → OnlyX n (Some v) o2 → IfOk r IsRewrite → WritesRemoval n (without_delta serial x.front.header) (dropped serial read.0.items) (Some v) o2 r → Prepares r n (rmdel_outcome sid stamp n i [] (files_at n v)) (world (Some v) out err) (world o2 out err)
 removed_at sid stamp n i x serial (Ok p) v o2 out err sfile read finds moves new writes =
     let f : Files = files_at n v in
@@ -159,7 +159,7 @@ written n x serial r a b v here read placed writes =
     let body = body_there (v n) (v (p_file n)) x (bytes_in (seen a) n) read placed (ap (λ (o : Option View). bytes_in o n) here) in
     subst (λ (o : Option View). WritesRemoval n (without_delta serial x.front.header) (dropped serial read.0.items) o (seen b) r) here (writes body.0 read.0.items body.1 body.2.front_is body.2.items_are)
 
-pub removed : (sid : Sid) (stamp : Stamp) (n : List ℕ) (x : Pending) (serial : ℕ) (r : Result Prepared StepFault) (left : Option (List ℕ)) (o : Option View) (a b : Told) (out err : Option (List ℕ)) → IsSfile n → seen a ≡ o → IfSome o (λ (v : View). IsRead n v x) → IsPlaced x.front
+pub removed : (sid : Sid) (stamp : Stamp) (n : List ℕ) (x : Pending) (serial : ℕ) (r : Result Prepared StepFault) (left : Option (List ℕ)) (o : Option View) (a b : Told) (out err : Option (List ℕ)) → IsSFileName n → seen a ≡ o → IfSome o (λ (v : View). IsRead n v x) → IsPlaced x.front
     → FindsRemovable sid stamp x.front.header x.edits (Ok serial) → OnlyX n (seen a) (seen b) → IfOk r IsRewrite → Writes n x serial r a b → PreparesChange (rmdel_change sid stamp) r n left (world o out err) (world (seen b) out err)
 removed sid stamp n x serial r left None a b out err sfile same read placed finds moves new writes = tt
 removed sid stamp n x serial r left (Some v) a b out err sfile same read placed finds moves new writes = λ i heard.

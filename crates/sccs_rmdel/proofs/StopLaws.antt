@@ -2,7 +2,7 @@
 use Rattle.std.proofs.Common.{◌≡◌, ℕ, List, Option, None, Some, Result, Ok, Err, refl, sym, ap, subst, ◌∙◌}
 use Rattle.std.specs.Prelude.{IfOk, IfSome}
 use Rattle.std.specs.Str.{bytes_eq}
-use Rattle.sccs_base.specs.Name.{IsSfile, p_file, q_file, x_file}
+use Rattle.sccs_base.specs.Name.{IsSFileName, p_file, q_file, x_file}
 use Rattle.sccs_disk.specs.Files.{Content, View, put}
 use Rattle.sccs_disk.specs.Told.{Told, seen}
 use Rattle.sccs_disk.proofs.Puts.{put_same}
@@ -82,7 +82,7 @@ settled sid stamp n x serial p a b v u here there same read placed rules spelled
     keeps_entries n p (sealed header items) u new (ap (λ (w : View). w (x_file n)) u_is ∙ put_same v (x_file n) (Some (sealed header items)))
     (entries_stay (sealed header items) (u (p_file n)) header.records x.edits (table_is (sealed header items) (record { header = header; items = items }) whole) (ap (λ (o : Option Content). edits_of (bytes_or_none o)) same ∙ entries) kept)
 
-pub removal_settles : (sid : Sid) (stamp : Stamp) (n : List ℕ) (x : Pending) (serial : ℕ) (r : Result Prepared StepFault) (o : Option View) (a b : Told) → IsSfile n → seen a ≡ o → IfSome o (λ (v : View). IsRead n v x) → IsPlaced x.front → IsHeader x.front.header → IsSpelled x.front.header
+pub removal_settles : (sid : Sid) (stamp : Stamp) (n : List ℕ) (x : Pending) (serial : ℕ) (r : Result Prepared StepFault) (o : Option View) (a b : Told) → IsSFileName n → seen a ≡ o → IfSome o (λ (v : View). IsRead n v x) → IsPlaced x.front → IsHeader x.front.header → IsSpelled x.front.header
     → Agrees x.front.header.records x.edits → FindsRemovable sid stamp x.front.header x.edits (Ok serial) → Moves (bytes_eq (x_file n)) (λ w. w) (seen a) (seen b) → IfOk r IsRewrite → Writes n x serial r a b → IfOk r (λ p. SettlesEntries n p b)
 removal_settles sid stamp n x serial (Err fault) o a b sfile same read placed rules spelled agree finds moves new writes = tt
 removal_settles sid stamp n x serial (Ok p) o a b sfile same read placed rules spelled agree finds moves new writes =

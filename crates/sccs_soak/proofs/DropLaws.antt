@@ -12,7 +12,7 @@ use Rattle.sccs_steps.specs.Actions.{Action, IsHeard, SpeaksAs, SpeaksByAs, Step
 use Rattle.sccs_steps.specs.Calls.{Meets, Scene, Uncommitted, World, scene, shown, world}
 use Rattle.sccs_steps.specs.Causes.{StepCauses, counts}
 use Rattle.sccs_steps.specs.StepEffects.{Outcome, effect_of}
-use Rattle.sccs_steps.specs.StepStops.{After, Before, Ends, MeetsAtAs, Place, StepMomentsAs, Within, place_as}
+use Rattle.sccs_steps.specs.StepStops.{After, Before, Ends, MeetsAtAs, Place, StepCrashPointsAs, Within, place_as}
 use Rattle.sccs_soak.specs.Dropping.{could_drop, dropped, dropped_effect, dropping}
 use Rattle.sccs_base.proofs.Rises.{never_rose}
 
@@ -80,9 +80,9 @@ module _ {X : Type 0} (code : X → ℕ) (n : List ℕ) where
       by None stepped = tt
       by (Some v) stepped = λ i heard. dropped_meets r (x.step n i (map v (x.named n)) (look v n)) (world (Some v) a.out a.err) (shown b) out err (stepped i heard)
 
-  pub dropped_moments : (x : Action) (r : Result X StepFault) (left : Option (List ℕ)) (a b : Scene) (out err : Option (List ℕ)) → StepMomentsAs code x r n left a b → StepMomentsAs code (dropping x) r n left (scene a.told out err) (scene b.told out err)
-  dropped_moments x r left a b out err moments = λ m past i told heard calm may.
-      dropped_at x r (x.step n i (map (view_of m) (x.named n)) (look (view_of m) n)) (view_of m) m past a b out err (moments m past i told heard calm may)
+  pub dropped_crash_points : (x : Action) (r : Result X StepFault) (left : Option (List ℕ)) (a b : Scene) (out err : Option (List ℕ)) → StepCrashPointsAs code x r n left a b → StepCrashPointsAs code (dropping x) r n left (scene a.told out err) (scene b.told out err)
+  dropped_crash_points x r left a b out err crash_points = λ m past i told heard calm may.
+      dropped_at x r (x.step n i (map (view_of m) (x.named n)) (look (view_of m) n)) (view_of m) m past a b out err (crash_points m past i told heard calm may)
 
   -- over any disk
   could_so : (could : Outcome → Bool) (o : Outcome) → could o ≡ true → could_drop could (dropped o) ≡ true

@@ -1,3 +1,3 @@
 pub mod DropLaws
-pub mod SoakCourses
+pub mod SoakStepLists
 pub mod SummaryLaws

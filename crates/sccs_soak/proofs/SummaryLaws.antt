@@ -35,11 +35,11 @@ use Rattle.sccs_steps.specs.StepEffects.{Outcome}
 use Rattle.sccs_steps.specs.declared.faults.Fault.{Fault}
 use Rattle.sccs_steps.specs.declared.faults.Fault.TheVariants as ends
 use Rattle.sccs_steps.proofs.LoneOperands.{lone_operand}
-use Rattle.sccs_step_lists.specs.Courses.{AllTake, portions_of, steps_along}
-use Rattle.sccs_step_lists.specs.Following.{RunsCourse}
-use Rattle.sccs_step_lists.proofs.OneAction.{steps_course}
-use Rattle.sccs_step_lists.proofs.QuietCourses.{course_chosen}
-use Rattle.sccs_step_lists.proofs.SaidCourses.{never_course}
+use Rattle.sccs_step_lists.specs.StepLists.{AllTake, portions_of, steps_along}
+use Rattle.sccs_step_lists.specs.Following.{RunsStepList}
+use Rattle.sccs_step_lists.proofs.OneAction.{steps_step_list}
+use Rattle.sccs_step_lists.proofs.QuietStepLists.{step_list_chosen}
+use Rattle.sccs_step_lists.proofs.SaidStepLists.{never_step_list}
 use Rattle.sccs_prs.specs.Gives.{IsListedFile, PrintsAll}
 use Rattle.sccs_prs.specs.PrsStep.{ShowsOutcome}
 use Rattle.sccs_prs.proofs.LinesLaws.{has_first, has_more}
@@ -48,8 +48,8 @@ use Rattle.sccs_soak.specs.Commands.{soak_file}
 use Rattle.sccs_soak.specs.Counting.{CountsLines}
 use Rattle.sccs_soak.specs.Keeps.{from_file, outcome_is}
 use Rattle.sccs_soak.specs.Soak.{BegunSummary, WholeSummary}
-use Rattle.sccs_soak.specs.Summaries.{four_lines, lines_by, live_count, newest_trunk, summary_action, summary_course, summary_outcome, summary_text, trunk_lines}
-use Rattle.sccs_soak.proofs.SoakCourses.{memory_causes}
+use Rattle.sccs_soak.specs.Summaries.{four_lines, lines_by, live_count, newest_trunk, summary_action, summary_step_list, summary_outcome, summary_text, trunk_lines}
+use Rattle.sccs_soak.proofs.SoakStepLists.{memory_causes}
 
 -- ---- the newest delta of the trunk
 
@@ -125,7 +125,7 @@ module _ (rounds : ℕ) (n : List ℕ) where
 
 -- ---- the call
 
-summary_takes : (rounds : ℕ) (folder : Folder) (i : List ℕ) → AllTake (portions_of (summary_course rounds) folder i)
+summary_takes : (rounds : ℕ) (folder : Folder) (i : List ℕ) → AllTake (portions_of (summary_step_list rounds) folder i)
 summary_takes rounds folder i = ((λ changes n fits. absurd (cc)), tt)
 
 -- it takes no input
@@ -133,18 +133,18 @@ heard_none : (rounds : ℕ) (left : Option (List ℕ)) (i : List ℕ) → IsInpu
 unfolding kind_of
 heard_none rounds left i = let one : 1 ≤ 1 = omega arith in (inl refl, inr one)
 
-some_step : (rounds : ℕ) (folder : Folder) (i : List ℕ) → 0 < length (steps_along (summary_course rounds) folder i)
+some_step : (rounds : ℕ) (folder : Folder) (i : List ℕ) → 0 < length (steps_along (summary_step_list rounds) folder i)
 unfolding kind_of
 some_step rounds folder i = omega arith
 
-pub summary_runs : (rounds : ℕ) (r : Result ℕ Fault) (s t : Setting) → RunsOperand (summary_action rounds) soak_file r s t → RunsCourse (summary_course rounds) (λ i. Unit {0}) (WholeSummary rounds) (BegunSummary rounds) r s t
+pub summary_runs : (rounds : ℕ) (r : Result ℕ Fault) (s t : Setting) → RunsOperand (summary_action rounds) soak_file r s t → RunsStepList (summary_step_list rounds) (λ i. Unit {0}) (WholeSummary rounds) (BegunSummary rounds) r s t
 summary_runs rounds r s t runs =
     let x : Action = summary_action rounds in
-    course_chosen (λ i. summary_course rounds) (summary_course rounds) (λ i. Unit {0}) (IsInput x (soak_file ∷ []) s.left) (WholeSummary rounds) (BegunSummary rounds) r s t (λ folder j. summary_takes rounds folder j) (λ i any. refl) (λ i any. heard_none rounds s.left i)
-    (steps_course x (λ folder i. steps_at x folder i (soak_file ∷ [])) (IsInput x (soak_file ∷ []) s.left) (InTurn (OperandMakes x) (soak_file ∷ [])) (BegunInTurn (OperandMakes x) (OperandBegins x) (soak_file ∷ [])) (hears x (soak_file ∷ [])) r s t (λ changes n fits. absurd (cc))
+    step_list_chosen (λ i. summary_step_list rounds) (summary_step_list rounds) (λ i. Unit {0}) (IsInput x (soak_file ∷ []) s.left) (WholeSummary rounds) (BegunSummary rounds) r s t (λ folder j. summary_takes rounds folder j) (λ i any. refl) (λ i any. heard_none rounds s.left i)
+    (steps_step_list x (λ folder i. steps_at x folder i (soak_file ∷ [])) (IsInput x (soak_file ∷ []) s.left) (InTurn (OperandMakes x) (soak_file ∷ [])) (BegunInTurn (OperandMakes x) (OperandBegins x) (soak_file ∷ [])) (hears x (soak_file ∷ [])) r s t (λ changes n fits. absurd (cc))
     (lone_operand x soak_file r s t runs))
 
 -- nothing was done
-pub summary_never : (rounds : ℕ) (s : Setting) → RunsCourse (summary_course rounds) (λ i. Unit {0}) (WholeSummary rounds) (BegunSummary rounds) (Err ends.Memory) s s
+pub summary_never : (rounds : ℕ) (s : Setting) → RunsStepList (summary_step_list rounds) (λ i. Unit {0}) (WholeSummary rounds) (BegunSummary rounds) (Err ends.Memory) s s
 summary_never rounds s =
-    never_course (summary_course rounds) (λ i. Unit {0}) (WholeSummary rounds) (BegunSummary rounds) [] ends.Memory s s (summary_takes rounds) (some_step rounds) (inl refl) refl (memory_causes s.faults)
+    never_step_list (summary_step_list rounds) (λ i. Unit {0}) (WholeSummary rounds) (BegunSummary rounds) [] ends.Memory s s (summary_takes rounds) (some_step rounds) (inl refl) refl (memory_causes s.faults)

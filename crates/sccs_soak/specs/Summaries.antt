@@ -17,7 +17,7 @@ use Rattle.sccs_prs.specs.PrsStep.{prints, prs_checks}
 use Rattle.sccs_steps.specs.Actions.{Action, quiet_checks}
 use Rattle.sccs_steps.specs.StepEffects.{Outcome}
 use Rattle.sccs_steps.specs.declared.statuses.StatusRule.TheVariants.{Greatest}
-use Rattle.sccs_step_lists.specs.Courses.{Courses, command_of}
+use Rattle.sccs_step_lists.specs.StepLists.{StepLists, command_of}
 use Rattle.sccs_soak.specs.Commands.{soak_file}
 
 -- how many deltas live
@@ -72,5 +72,5 @@ summary_action rounds = record {
   could = quiet_checks prs_checks;
 }
 
-abbrev pub summary_course : ℕ → Courses
-summary_course rounds = command_of (summary_action rounds) (soak_file ∷ [])
+abbrev pub summary_step_list : ℕ → StepLists
+summary_step_list rounds = command_of (summary_action rounds) (soak_file ∷ [])

@@ -6,7 +6,7 @@ ghost use Rattle.sccs_soak.specs.Commands.{command_at, delta_command, edit_comma
 use crate::turns::{Turn, write_script};
 use itoa::Buffer;
 use sccs_base::{Bytes, Login, Memory, Words};
-use sccs_batch::Entry;
+use sccs_batch::BatchEntry;
 use sccs_sid::{Moment, Stamp};
 use std::alloc::Global;
 
@@ -96,13 +96,13 @@ fn delta_words(alloc: Global, round: u64) -> Result<Words, Memory>
 }
 
 /// The command that makes the file of a soak.
-pub fn first_command(alloc: Global) -> Result<Entry, Memory>
+pub fn first_command(alloc: Global) -> Result<BatchEntry, Memory>
     ensures value { IfOk result (λ entry. entry ≡ first_command) }
     ensures moment { IfOk result (λ entry. IsMoment entry.stamp.moment) }
     ensures single { IfOk result (λ entry. is_single entry.words ≡ true) }
 {
     let words = first_words(alloc)?;
-    Ok(Entry {
+    Ok(BatchEntry {
         stamp: stamp_at(0),
         words,
         input: Bytes::empty(alloc),
@@ -110,14 +110,14 @@ pub fn first_command(alloc: Global) -> Result<Entry, Memory>
 }
 
 /// The edit of a round.
-pub fn edit_command(alloc: Global, round: u64, turn: Turn) -> Result<Entry, Memory>
+pub fn edit_command(alloc: Global, round: u64, turn: Turn) -> Result<BatchEntry, Memory>
     requires { round ≤ 2000 }
     ensures value { IfOk result (λ entry. entry ≡ edit_command round turn) }
     ensures moment { IfOk result (λ entry. IsMoment entry.stamp.moment) }
     ensures single { IfOk result (λ entry. is_single entry.words ≡ true) }
 {
     let words = edit_words(alloc, turn.begins_branch())?;
-    Ok(Entry {
+    Ok(BatchEntry {
         stamp: stamp_at(round),
         words,
         input: Bytes::empty(alloc),
@@ -125,7 +125,7 @@ pub fn edit_command(alloc: Global, round: u64, turn: Turn) -> Result<Entry, Memo
 }
 
 /// The delta of a round.
-pub fn delta_command(alloc: Global, round: u64, turn: Turn) -> Result<Entry, Memory>
+pub fn delta_command(alloc: Global, round: u64, turn: Turn) -> Result<BatchEntry, Memory>
     requires { round ≤ 2000 }
     ensures value { IfOk result (λ entry. entry ≡ delta_command round turn) }
     ensures moment { IfOk result (λ entry. IsMoment entry.stamp.moment) }
@@ -133,7 +133,7 @@ pub fn delta_command(alloc: Global, round: u64, turn: Turn) -> Result<Entry, Mem
 {
     let words = delta_words(alloc, round)?;
     let input = write_script(alloc, round, turn)?;
-    Ok(Entry {
+    Ok(BatchEntry {
         stamp: stamp_at(round),
         words,
         input,

@@ -1,22 +1,22 @@
 ghost use Rattle.std.specs.Prelude.{◌≡◌, ◌≤◌, IfOk, true};
 ghost use Rattle.sccs_sid.specs.Moment.{IsMoment};
 ghost use Rattle.sccs_steps.specs.Settings.{SameLoans, setting, setting_of};
-ghost use Rattle.sccs_step_lists.specs.Following.{RunsCourse};
+ghost use Rattle.sccs_step_lists.specs.Following.{RunsStepList};
 ghost use Rattle.sccs_step_lists.specs.QuietSettings.{quiet};
 ghost use Rattle.sccs_step_lists.specs.WhileFine.{RunsWhileFine};
 ghost use Rattle.sccs_batch.specs.BatchText.{is_single};
-ghost use Rattle.sccs_batch.specs.declared.entries.Entry.{Entry};
+ghost use Rattle.sccs_batch.specs.declared.entries.BatchEntry.{BatchEntry};
 ghost use Rattle.sccs_soak.specs.Commands.{rounds_from};
 ghost use Rattle.sccs_soak.specs.Runs.{RunsRound, RunsSoak, RunsSoaked};
 ghost use Rattle.sccs_soak.specs.Soak.{BegunSummary, WholeSummary, soaking};
-ghost use Rattle.sccs_soak.specs.Summaries.{summary_course};
+ghost use Rattle.sccs_soak.specs.Summaries.{summary_step_list};
 
 use crate::commands::{SOAK_FILE, delta_command, edit_command, first_command};
 use crate::draws::Draws;
 use crate::summaries::Summary;
 use crate::turns::Turn;
 use sccs_base::{Memory, Sink, Source, SteadySource};
-use sccs_batch::{Commands, Entry};
+use sccs_batch::{BatchEntry, Commands};
 use sccs_disk::Disk;
 use sccs_steps::{Fault, Ordinary, Streams, run_operand};
 use std::alloc::Global;
@@ -25,14 +25,14 @@ use std::alloc::Global;
 fn run_made<C: Commands, O: Sink, E: Sink, D: Disk>(
     alloc: Global,
     commands: &C,
-    made: Result<Entry, Memory>,
+    made: Result<BatchEntry, Memory>,
     out: &mut O,
     err: &mut E,
     disk: &mut D,
 ) -> Result<u8, Fault>
     requires moment { IfOk made (λ entry. IsMoment entry.stamp.moment) }
     requires single { IfOk made (λ entry. is_single entry.words ≡ true) }
-    ensures { (entry : Entry) → IfOk made (λ e. e ≡ entry)
+    ensures { (entry : BatchEntry) → IfOk made (λ e. e ≡ entry)
         → RunsSoaked (C.command commands.now entry) (C.fits commands.now entry) (C.whole commands.now entry) (C.begun commands.now entry) result
         (quiet O.Sink E.Sink D.Disk out.old err.old disk.old) (quiet O.Sink E.Sink D.Disk out.new err.new disk.new) }
 {
@@ -75,7 +75,7 @@ fn print_streams<I: Source, O: Sink, E: Sink, D: Disk>(
     streams: &mut Streams<I, O, E, D>,
 ) -> Result<u8, Fault>
     ensures loans { SameLoans streams.old streams.new }
-    ensures run { RunsCourse (summary_course number) (λ i. Unit {0}) (WholeSummary number) (BegunSummary number) result
+    ensures run { RunsStepList (summary_step_list number) (λ i. Unit {0}) (WholeSummary number) (BegunSummary number) result
         (setting I.Source O.Sink E.Sink D.Disk streams.old) (setting I.Source O.Sink E.Sink D.Disk streams.new) }
 {
     let utility = Ordinary {
@@ -93,7 +93,7 @@ fn print_made<I: Source, O: Sink, E: Sink, D: Disk>(
     err: &mut E,
     disk: &mut D,
 ) -> Result<u8, Fault>
-    ensures { RunsCourse (summary_course number) (λ i. Unit {0}) (WholeSummary number) (BegunSummary number) result
+    ensures { RunsStepList (summary_step_list number) (λ i. Unit {0}) (WholeSummary number) (BegunSummary number) result
         (setting_of I.Source O.Sink E.Sink D.Disk input.old out.old err.old disk.old) (setting_of I.Source O.Sink E.Sink D.Disk input.new out.new err.new disk.new) }
 {
     let mut streams = Streams {
@@ -113,7 +113,7 @@ fn run_summary<O: Sink, E: Sink, D: Disk>(
     err: &mut E,
     disk: &mut D,
 ) -> Result<u8, Fault>
-    ensures { RunsCourse (summary_course number) (λ i. Unit {0}) (WholeSummary number) (BegunSummary number) result
+    ensures { RunsStepList (summary_step_list number) (λ i. Unit {0}) (WholeSummary number) (BegunSummary number) result
         (quiet O.Sink E.Sink D.Disk out.old err.old disk.old) (quiet O.Sink E.Sink D.Disk out.new err.new disk.new) }
 {
     match SteadySource::new(alloc, b"") {

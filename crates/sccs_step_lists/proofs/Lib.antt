@@ -1,9 +1,9 @@
-pub mod CourseMomentLaws
+pub mod StepListCrashPointLaws
 pub mod FineLoops
-pub mod JoinedCourses
+pub mod JoinedStepLists
 pub mod Loops
 pub mod OneAction
 pub mod OwnFiles
 pub mod Portions
-pub mod QuietCourses
-pub mod SaidCourses
+pub mod QuietStepLists
+pub mod SaidStepLists

@@ -1,4 +1,4 @@
--- The working files of a course's own steps are no s-files, p-files or z-files.
+-- The working files of a list of steps's own steps are no s-files, p-files or z-files.
 use Rattle.std.proofs.Common.{◌≡◌, ℕ, Bool, true, false, cond, ◌&&◌, ◌||◌, List, [], ◌∷◌, Result, refl, ap, ◌∙◌}
 use Rattle.std.specs.Str.{bytes_eq}
 use Rattle.sccs_base.specs.Name.{p_file, z_file}
@@ -11,8 +11,8 @@ use Rattle.sccs_steps.specs.Calls.{Scene}
 use Rattle.sccs_steps.specs.ListStops.{Spares}
 use Rattle.sccs_steps.specs.StepLists.{NamedStep}
 use Rattle.sccs_steps.specs.declared.faults.Fault.{Fault}
-use Rattle.sccs_step_lists.specs.Courses.{Courses, Portion, portions_of}
-use Rattle.sccs_step_lists.specs.Following.{MakesCourse, StopsCourse, UnlockedCourse}
+use Rattle.sccs_step_lists.specs.StepLists.{StepLists, Portion, portions_of}
+use Rattle.sccs_step_lists.specs.Following.{MakesStepList, StopsStepList, UnlockedStepList}
 use Rattle.sccs_step_lists.specs.OwnFiles.{MakesOwn, StopsOwn, UnlockedOwn, working_along, working_by, working_in, working_of}
 use Rattle.std.proofs.lemmas.Bool.{or_from}
 
@@ -63,11 +63,11 @@ spares_in (p ∷ q ∷ ps) =
 
 -- ---- what is said for any working files, for its own
 
-pub own_makes : (course : Courses) (given : List ℕ → Type 0) (r : Result ℕ Fault) (a b : Scene) → MakesCourse course given r a b → MakesOwn course given r a b
-own_makes course given r a b makes = λ folder i told shows known. makes (working_along course folder i) folder i (spares_in (portions_of course folder i)) told.1 shows known told.0
+pub own_makes : (step_list : StepLists) (given : List ℕ → Type 0) (r : Result ℕ Fault) (a b : Scene) → MakesStepList step_list given r a b → MakesOwn step_list given r a b
+own_makes step_list given r a b makes = λ folder i told shows known. makes (working_along step_list folder i) folder i (spares_in (portions_of step_list folder i)) told.1 shows known told.0
 
-pub own_stops : (course : Courses) (given : List ℕ → Type 0) (r : Result ℕ Fault) (a b : Scene) → StopsCourse course given r a b → StopsOwn course given r a b
-own_stops course given r a b stops = λ folder i m past told shows is may safe. stops (working_along course folder i) folder i m past (spares_in (portions_of course folder i)) told.1 shows told.0 is may safe
+pub own_stops : (step_list : StepLists) (given : List ℕ → Type 0) (r : Result ℕ Fault) (a b : Scene) → StopsStepList step_list given r a b → StopsOwn step_list given r a b
+own_stops step_list given r a b stops = λ folder i m past told shows is may safe. stops (working_along step_list folder i) folder i m past (spares_in (portions_of step_list folder i)) told.1 shows told.0 is may safe
 
-pub own_unlocked : (course : Courses) (given : List ℕ → Type 0) (old new : Told) → UnlockedCourse course given old new → UnlockedOwn course given old new
-own_unlocked course given old new unlocked = λ folder i told shows known exempt plain freed. unlocked (working_along course folder i) folder i (spares_in (portions_of course folder i)) told.1 shows known told.0 exempt plain freed
+pub own_unlocked : (step_list : StepLists) (given : List ℕ → Type 0) (old new : Told) → UnlockedStepList step_list given old new → UnlockedOwn step_list given old new
+own_unlocked step_list given old new unlocked = λ folder i told shows known exempt plain freed. unlocked (working_along step_list folder i) folder i (spares_in (portions_of step_list folder i)) told.1 shows known told.0 exempt plain freed

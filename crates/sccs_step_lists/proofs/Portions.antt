@@ -6,7 +6,7 @@ use Rattle.sccs_disk.specs.Files.{View}
 use Rattle.sccs_steps.specs.ListStops.{KeepsSafe}
 use Rattle.sccs_steps.specs.StepLists.{NamedStep}
 use Rattle.sccs_steps.proofs.Turns.{each_all}
-use Rattle.sccs_step_lists.specs.Courses.{AllSafe, AllTake, Portion, steps_in}
+use Rattle.sccs_step_lists.specs.StepLists.{AllSafe, AllTake, Portion, steps_in}
 
 pub both_all : {X : Type 0} (P : X → Type 0) (xs ys : List X) → AllByRecursion P xs → AllByRecursion P ys → AllByRecursion P (xs ++ ys)
 both_all P [] ys first next = next

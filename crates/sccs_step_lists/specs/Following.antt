@@ -1,4 +1,4 @@
--- What a call says that follows a course.
+-- What a call says that follows a list of steps.
 use Rattle.std.specs.Prelude.{◌≡◌, ◌≢◌, ◌⊎◌, ℕ, suc, ◌<◌, ◌≤◌, Bool, List, [], ◌∷◌, ◌++◌, length, Option, IfSome, Result, Ok, Err}
 use Rattle.sccs_base.specs.Stream.{GivesOk, GivesSome}
 use Rattle.sccs_disk.specs.Files.{Folder, Model, View, view_in}
@@ -10,13 +10,13 @@ use Rattle.sccs_crash_points.specs.Recovery.{RecoversAs}
 use Rattle.sccs_crash_points.specs.Unlocked.{BeginsUnlockedBut}
 use Rattle.sccs_steps.specs.Calls.{Scene, World, shown}
 use Rattle.sccs_steps.specs.Causes.{RunCauses}
-use Rattle.sccs_steps.specs.ListStops.{IsAcknowledged, KeepsSafe, KeepsSafeFrom, ListMoments, MayBegin, Spares, view_at}
+use Rattle.sccs_steps.specs.ListStops.{IsAcknowledged, KeepsSafe, KeepsSafeFrom, ListCrashPoints, MayBegin, Spares, view_at}
 use Rattle.sccs_steps.specs.Settings.{Setting}
 use Rattle.sccs_steps.specs.StepLists.{NamedStep, Ran, Stops, err_of, status_of}
 use Rattle.sccs_steps.specs.declared.faults.Fault.{Fault}
 use Rattle.sccs_steps.specs.declared.faults.Fault.TheVariants as ends
 use Rattle.sccs_steps.specs.declared.statuses.StatusRule.{StatusRule}
-use Rattle.sccs_step_lists.specs.Courses.{AllClear, AllExempt, AllPlain, AllSafe, AllTake, Courses, NoneFinishes, Portion, portions_of, steps_along}
+use Rattle.sccs_step_lists.specs.StepLists.{AllClear, AllExempt, AllPlain, AllSafe, AllTake, StepLists, NoneFinishes, Portion, portions_of, steps_along}
 
 -- what a call answers, and leaves, that makes these steps and then has this status
 abbrev pub RunsTo : ℕ → (List ℕ → Bool) → Result ℕ Fault → Folder → List NamedStep → World → World → Type 0
@@ -44,15 +44,15 @@ FinishesFirst told folder (p ∷ ps) = RecoversTold told folder × NoneFinishes 
 abbrev pub AreKnown : Told → Folder → List Portion → Type 0
 AreKnown told folder ps = NoneFinishes ps ⊎ (BeginsSafe told folder ps ⊎ FinishesFirst told folder ps)
 
--- where the disk tells a folder and the input is given the course is followed, or the call ends early
-abbrev pub MakesCourse : Courses → (List ℕ → Type 0) → Result ℕ Fault → Scene → Scene → Type 0
-MakesCourse course given r a b = (w : List ℕ → Bool) (folder : Folder) (i : List ℕ)
-    → Spares w → AllClear w (portions_of course folder i) → Shows w (seen a.told) (view_in folder) → AreKnown a.told folder (portions_of course folder i) → given i
-    → RunsTo (course folder i).status w r folder (steps_along course folder i) (shown a) (shown b)
+-- where the disk tells a folder and the input is given the list of steps is followed, or the call ends early
+abbrev pub MakesStepList : StepLists → (List ℕ → Type 0) → Result ℕ Fault → Scene → Scene → Type 0
+MakesStepList step_list given r a b = (w : List ℕ → Bool) (folder : Folder) (i : List ℕ)
+    → Spares w → AllClear w (portions_of step_list folder i) → Shows w (seen a.told) (view_in folder) → AreKnown a.told folder (portions_of step_list folder i) → given i
+    → RunsTo (step_list folder i).status w r folder (steps_along step_list folder i) (shown a) (shown b)
 
--- The moments of all steps: one number for each moment, over all of them.
-pub record CourseMoments (w : List ℕ → Bool) (r : Result ℕ Fault) (folder : Folder) (ts : List NamedStep) (a b : Scene) (m : Model) (past : List Model) : Type 0 where
-  pub list : ListMoments w r folder ts a b m past
+-- The crash points of all steps: one number for each moment, over all of them.
+pub record StepListCrashPoints (w : List ℕ → Bool) (r : Result ℕ Fault) (folder : Folder) (ts : List NamedStep) (a b : Scene) (m : Model) (past : List Model) : Type 0 where
+  pub list : ListCrashPoints w r folder ts a b m past
   -- the last number is at least that of each step that is acknowledged
   pub acknowledged : (k : ℕ) → k < length ts → IsAcknowledged r ts k (shown a) (shown b) → suc k ≤ list.number
   -- but at a disk fault the names that were safe are safe again
@@ -60,36 +60,36 @@ pub record CourseMoments (w : List ℕ → Bool) (r : Result ℕ Fault) (folder 
   -- and whatever a stop leaves, in it each s-file's name is safe that was safe in whatever one could leave at the start
   pub images : Each (Allows (KeepsSafeFrom m)) list.went.added m
 
--- what a stop leaves of a course that begins on a calm disk, where the names of its steps are safe
-abbrev pub StopsCourse : Courses → (List ℕ → Type 0) → Result ℕ Fault → Scene → Scene → Type 0
-StopsCourse course given r a b = (w : List ℕ → Bool) (folder : Folder) (i : List ℕ) (m : Model) (past : List Model)
-    → Spares w → AllClear w (portions_of course folder i) → Shows w (seen a.told) (view_in folder) → given i
-    → a.told ≡ Tells m past → MayBegin folder m → AllSafe (view_in folder) (portions_of course folder i)
-    → CourseMoments w r folder (steps_along course folder i) a b m past
+-- what a stop leaves of a list of steps that begins on a calm disk, where the names of its steps are safe
+abbrev pub StopsStepList : StepLists → (List ℕ → Type 0) → Result ℕ Fault → Scene → Scene → Type 0
+StopsStepList step_list given r a b = (w : List ℕ → Bool) (folder : Folder) (i : List ℕ) (m : Model) (past : List Model)
+    → Spares w → AllClear w (portions_of step_list folder i) → Shows w (seen a.told) (view_in folder) → given i
+    → a.told ≡ Tells m past → MayBegin folder m → AllSafe (view_in folder) (portions_of step_list folder i)
+    → StepListCrashPoints w r folder (steps_along step_list folder i) a b m past
 
 -- before each change of an s-file or p-file its z-file wasn't there at a moment of the call, but of the names of steps that don't lock them
-abbrev pub UnlockedCourse : Courses → (List ℕ → Type 0) → Told → Told → Type 0
-UnlockedCourse course given old new = (w : List ℕ → Bool) (folder : Folder) (i : List ℕ)
-    → Spares w → AllClear w (portions_of course folder i) → Shows w (seen old) (view_in folder) → AreKnown old folder (portions_of course folder i) → given i
-    → (exempt : List ℕ → Bool) → AllPlain (portions_of course folder i) → AllExempt exempt (portions_of course folder i) → BeginsUnlockedBut exempt old new
+abbrev pub UnlockedStepList : StepLists → (List ℕ → Type 0) → Told → Told → Type 0
+UnlockedStepList step_list given old new = (w : List ℕ → Bool) (folder : Folder) (i : List ℕ)
+    → Spares w → AllClear w (portions_of step_list folder i) → Shows w (seen old) (view_in folder) → AreKnown old folder (portions_of step_list folder i) → given i
+    → (exempt : List ℕ → Bool) → AllPlain (portions_of step_list folder i) → AllExempt exempt (portions_of step_list folder i) → BeginsUnlockedBut exempt old new
 
 -- over any disk: some steps explain the status and what is written on err, whole ones at Ok, and else some that were begun
 abbrev pub SpeaksTo : (ℕ → List NamedStep → Type 0) → (List NamedStep → Type 0) → Result ℕ Fault → Option (List ℕ) → Option (List ℕ) → Type 0
 SpeaksTo whole begun (Ok status) err err2 = (ts : List NamedStep) × whole status ts × GivesOk err err2 (err_of ts)
 SpeaksTo whole begun (Err fault) err err2 = (ts : List NamedStep) × begun ts × GivesSome err err2 (err_of ts)
 
--- What a call says that follows a course.
-pub record RunsCourse (course : Courses) (given : List ℕ → Type 0) (whole : ℕ → List NamedStep → Type 0) (begun : List NamedStep → Type 0) (r : Result ℕ Fault) (s t : Setting) : Type 0 where
-  pub some : (folder : Folder) (i : List ℕ) → given i → portions_of course folder i ≢ []
+-- What a call says that follows a list of steps.
+pub record RunsStepList (step_list : StepLists) (given : List ℕ → Type 0) (whole : ℕ → List NamedStep → Type 0) (begun : List NamedStep → Type 0) (r : Result ℕ Fault) (s t : Setting) : Type 0 where
+  pub some : (folder : Folder) (i : List ℕ) → given i → portions_of step_list folder i ≢ []
   -- what changes files takes the names of s-files alone
-  pub takes : (folder : Folder) (i : List ℕ) → AllTake (portions_of course folder i)
-  pub steps : MakesCourse course given r s.stage t.stage
-  pub stops : StopsCourse course given r s.stage t.stage
-  pub unlocked : UnlockedCourse course given s.stage.told t.stage.told
+  pub takes : (folder : Folder) (i : List ℕ) → AllTake (portions_of step_list folder i)
+  pub steps : MakesStepList step_list given r s.stage t.stage
+  pub stops : StopsStepList step_list given r s.stage t.stage
+  pub unlocked : UnlockedStepList step_list given s.stage.told t.stage.told
   pub speaks : SpeaksTo whole begun r s.stage.err t.stage.err
   pub causes : RunCauses r s.faults t.faults
 
--- ---- over any disk: steps of a course and then of one that its status decides
+-- ---- over any disk: steps of a list of steps and then of one that its status decides
 
 abbrev pub WholeThen : (ℕ → List NamedStep → Type 0) → (ℕ → ℕ → List NamedStep → Type 0) → ℕ → List NamedStep → Type 0
 WholeThen whole whole2 code ts = (one : ℕ) × (first : List NamedStep) × (rest : List NamedStep) × (ts ≡ first ++ rest) × whole one first × whole2 one code rest
@@ -100,12 +100,12 @@ BegunThen whole begun begun2 ts =
 
 -- ---- loops
 
--- however a call follows the rest of a course from here, all of it is followed so from the start
-abbrev pub Leads : Courses → (List ℕ → Type 0) → (ℕ → List NamedStep → Type 0) → (List NamedStep → Type 0) → Setting → Courses → (List ℕ → Type 0) → (ℕ → List NamedStep → Type 0) → (List NamedStep → Type 0) → Setting → Type 0
+-- however a call follows the rest of a list of steps from here, all of it is followed so from the start
+abbrev pub Leads : StepLists → (List ℕ → Type 0) → (ℕ → List NamedStep → Type 0) → (List NamedStep → Type 0) → Setting → StepLists → (List ℕ → Type 0) → (ℕ → List NamedStep → Type 0) → (List NamedStep → Type 0) → Setting → Type 0
 Leads all given whole begun s rest given2 whole2 begun2 t =
-    (r : Result ℕ Fault) (u : Setting) → RunsCourse rest given2 whole2 begun2 r t u → RunsCourse all given whole begun r s u
+    (r : Result ℕ Fault) (u : Setting) → RunsStepList rest given2 whole2 begun2 r t u → RunsStepList all given whole begun r s u
 
--- over any disk: steps of several things in turn, and then those of the last course
+-- over any disk: steps of several things in turn, and then those of the last list of steps
 abbrev pub WholeList : {X : Type 0} → (X → ℕ → List NamedStep → Type 0) → (ℕ → List NamedStep → Type 0) → List X → ℕ → List NamedStep → Type 0
 WholeList whole last [] = last
 WholeList whole last (x ∷ xs) = WholeThen (whole x) (λ code. WholeList whole last xs)

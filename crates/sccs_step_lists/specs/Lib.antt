@@ -1,4 +1,4 @@
-pub mod Courses
+pub mod StepLists
 pub mod Following
 pub mod OwnFiles
 pub mod QuietSettings

@@ -1,4 +1,4 @@
--- What a call says that follows a course, where the working files are those of the names of its steps.
+-- What a call says that follows a list of steps, where the working files are those of the names of its steps.
 use Rattle.std.specs.Prelude.{◌≡◌, ℕ, Bool, false, ◌&&◌, ◌||◌, List, [], ◌∷◌, if◌then◌else◌, Result}
 use Rattle.std.specs.Str.{bytes_eq}
 use Rattle.sccs_disk.specs.Files.{Folder, Model, view_in}
@@ -11,8 +11,8 @@ use Rattle.sccs_steps.specs.Calls.{Scene, shown}
 use Rattle.sccs_steps.specs.ListStops.{MayBegin}
 use Rattle.sccs_steps.specs.StepLists.{NamedStep}
 use Rattle.sccs_steps.specs.declared.faults.Fault.{Fault}
-use Rattle.sccs_step_lists.specs.Courses.{AllClear, AllExempt, AllPlain, AllSafe, Courses, Portion, portions_of, steps_along}
-use Rattle.sccs_step_lists.specs.Following.{AreKnown, CourseMoments, RunsTo}
+use Rattle.sccs_step_lists.specs.StepLists.{AllClear, AllExempt, AllPlain, AllSafe, StepLists, Portion, portions_of, steps_along}
+use Rattle.sccs_step_lists.specs.Following.{AreKnown, StepListCrashPoints, RunsTo}
 
 -- the working files of the names of steps
 abbrev pub working_of : Action → List NamedStep → List ℕ → Bool
@@ -29,24 +29,24 @@ working_in [] = nowhere
 working_in (p ∷ []) = working_by p
 working_in (p ∷ q ∷ ps) = λ k. working_by p k || working_in (q ∷ ps) k
 
-abbrev pub working_along : Courses → Folder → List ℕ → List ℕ → Bool
-working_along course folder i = working_in (portions_of course folder i)
+abbrev pub working_along : StepLists → Folder → List ℕ → List ℕ → Bool
+working_along step_list folder i = working_in (portions_of step_list folder i)
 
 -- the input is as it is asked, and the files of the names of steps are apart from the working files of others
-abbrev pub IsGivenTo : Courses → (List ℕ → Type 0) → Folder → List ℕ → Type 0
-IsGivenTo course given folder i = given i × AllClear (working_along course folder i) (portions_of course folder i)
+abbrev pub IsGivenTo : StepLists → (List ℕ → Type 0) → Folder → List ℕ → Type 0
+IsGivenTo step_list given folder i = given i × AllClear (working_along step_list folder i) (portions_of step_list folder i)
 
-abbrev pub MakesOwn : Courses → (List ℕ → Type 0) → Result ℕ Fault → Scene → Scene → Type 0
-MakesOwn course given r a b = (folder : Folder) (i : List ℕ) → IsGivenTo course given folder i → Shows (working_along course folder i) (seen a.told) (view_in folder)
-    → AreKnown a.told folder (portions_of course folder i)
-    → RunsTo (course folder i).status (working_along course folder i) r folder (steps_along course folder i) (shown a) (shown b)
+abbrev pub MakesOwn : StepLists → (List ℕ → Type 0) → Result ℕ Fault → Scene → Scene → Type 0
+MakesOwn step_list given r a b = (folder : Folder) (i : List ℕ) → IsGivenTo step_list given folder i → Shows (working_along step_list folder i) (seen a.told) (view_in folder)
+    → AreKnown a.told folder (portions_of step_list folder i)
+    → RunsTo (step_list folder i).status (working_along step_list folder i) r folder (steps_along step_list folder i) (shown a) (shown b)
 
-abbrev pub StopsOwn : Courses → (List ℕ → Type 0) → Result ℕ Fault → Scene → Scene → Type 0
-StopsOwn course given r a b = (folder : Folder) (i : List ℕ) (m : Model) (past : List Model) → IsGivenTo course given folder i → Shows (working_along course folder i) (seen a.told) (view_in folder)
-    → a.told ≡ Tells m past → MayBegin folder m → AllSafe (view_in folder) (portions_of course folder i)
-    → CourseMoments (working_along course folder i) r folder (steps_along course folder i) a b m past
+abbrev pub StopsOwn : StepLists → (List ℕ → Type 0) → Result ℕ Fault → Scene → Scene → Type 0
+StopsOwn step_list given r a b = (folder : Folder) (i : List ℕ) (m : Model) (past : List Model) → IsGivenTo step_list given folder i → Shows (working_along step_list folder i) (seen a.told) (view_in folder)
+    → a.told ≡ Tells m past → MayBegin folder m → AllSafe (view_in folder) (portions_of step_list folder i)
+    → StepListCrashPoints (working_along step_list folder i) r folder (steps_along step_list folder i) a b m past
 
-abbrev pub UnlockedOwn : Courses → (List ℕ → Type 0) → Told → Told → Type 0
-UnlockedOwn course given old new = (folder : Folder) (i : List ℕ) → IsGivenTo course given folder i → Shows (working_along course folder i) (seen old) (view_in folder)
-    → AreKnown old folder (portions_of course folder i)
-    → (exempt : List ℕ → Bool) → AllPlain (portions_of course folder i) → AllExempt exempt (portions_of course folder i) → BeginsUnlockedBut exempt old new
+abbrev pub UnlockedOwn : StepLists → (List ℕ → Type 0) → Told → Told → Type 0
+UnlockedOwn step_list given old new = (folder : Folder) (i : List ℕ) → IsGivenTo step_list given folder i → Shows (working_along step_list folder i) (seen old) (view_in folder)
+    → AreKnown old folder (portions_of step_list folder i)
+    → (exempt : List ℕ → Bool) → AllPlain (portions_of step_list folder i) → AllExempt exempt (portions_of step_list folder i) → BeginsUnlockedBut exempt old new

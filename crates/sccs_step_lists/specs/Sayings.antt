@@ -5,7 +5,7 @@ use Rattle.sccs_steps.specs.Calls.{Scene}
 use Rattle.sccs_steps.specs.StepLists.{NamedStep}
 use Rattle.sccs_steps.specs.declared.faults.Fault.{Fault}
 use Rattle.sccs_steps.specs.declared.faults.Fault.TheVariants as ends
-use Rattle.sccs_step_lists.specs.Courses.{said}
+use Rattle.sccs_step_lists.specs.StepLists.{said}
 
 -- a text on out and one on err were written, with this status, or a prefix of each
 abbrev pub IsSaid : List ℕ → List ℕ → ℕ → Result ℕ Fault → Scene → Scene → Type 0

@@ -2,7 +2,7 @@
 use Rattle.std.proofs.Common.{◌≡◌, ◌||◌, ℕ, Bool, true, false, List, drop, map, Option, None, Some, Ok, Err, is_some, refl, sym, ap, subst, ◌∙◌, ⊎_elim, [], ◌∷◌}
 use Rattle.std.specs.Prelude.{IsSome}
 use Rattle.std.specs.Str.{bytes_eq}
-use Rattle.sccs_base.specs.Name.{IsSfile, p_file, q_file, x_file, z_file}
+use Rattle.sccs_base.specs.Name.{IsSFileName, p_file, q_file, x_file, z_file}
 use Rattle.sccs_disk.specs.Files.{Content, View, put, Folder, view_in}
 use Rattle.sccs_disk.proofs.Puts.{name_cases, put_other, put_same}
 use Rattle.sccs_name_files.specs.StepFiles.{Alike, Files, is_early, l_file, look, moved, placed, moved_in}
@@ -49,30 +49,30 @@ pub moved_others : (n : List ℕ) (v : View) (new : Option Files) → SameOthers
 moved_others n v None k h = refl
 moved_others n v (Some f) k h = placed_other n k v f h
 
-own_x : (n k : List ℕ) → IsSfile n → IsSfile k → is_kept (drop 2 n) ≡ false → bytes_eq n k ≡ false → is_own n (x_file k) ≡ false
+own_x : (n k : List ℕ) → IsSFileName n → IsSFileName k → is_kept (drop 2 n) ≡ false → bytes_eq n k ≡ false → is_own n (x_file k) ≡ false
 own_x n k sfile other plain apart =
     or_from (bytes_eq n (x_file k)) (bytes_eq (p_file n) (x_file k) || (bytes_eq (drop 2 n) (x_file k) || is_early n (x_file k))) (to_sfile 120 n k sfile refl)
     (or_from (bytes_eq (p_file n) (x_file k)) (bytes_eq (drop 2 n) (x_file k) || is_early n (x_file k)) refl
     (or_from (bytes_eq (drop 2 n) (x_file k)) (is_early n (x_file k)) (kept_x (drop 2 n) k plain other) (left_x n k sfile other apart)))
 
-own_q : (n k : List ℕ) → IsSfile n → IsSfile k → is_kept (drop 2 n) ≡ false → bytes_eq n k ≡ false → is_own n (q_file k) ≡ false
+own_q : (n k : List ℕ) → IsSFileName n → IsSFileName k → is_kept (drop 2 n) ≡ false → bytes_eq n k ≡ false → is_own n (q_file k) ≡ false
 own_q n k sfile other plain apart =
     or_from (bytes_eq n (q_file k)) (bytes_eq (p_file n) (q_file k) || (bytes_eq (drop 2 n) (q_file k) || is_early n (q_file k))) (to_sfile 113 n k sfile refl)
     (or_from (bytes_eq (p_file n) (q_file k)) (bytes_eq (drop 2 n) (q_file k) || is_early n (q_file k)) refl
     (or_from (bytes_eq (drop 2 n) (q_file k)) (is_early n (q_file k)) (kept_q (drop 2 n) k plain other) (left_q n k sfile other apart)))
 
-own_intent : (n : List ℕ) → IsSfile n → is_kept (drop 2 n) ≡ false → is_own n intent_file ≡ false
+own_intent : (n : List ℕ) → IsSFileName n → is_kept (drop 2 n) ≡ false → is_own n intent_file ≡ false
 own_intent n sfile plain =
     or_from (bytes_eq n intent_file) (bytes_eq (p_file n) intent_file || (bytes_eq (drop 2 n) intent_file || is_early n intent_file)) (sfile_and_intent n sfile)
     (or_from (bytes_eq (p_file n) intent_file) (bytes_eq (drop 2 n) intent_file || is_early n intent_file) refl
     (or_from (bytes_eq (drop 2 n) intent_file) (is_early n intent_file) (kept_intent (drop 2 n) plain) refl))
 
 -- the intent is among the files of other names
-pub others_fate : (n k : List ℕ) (u v : View) → IsSfile n → is_kept (drop 2 n) ≡ false → SameOthers (is_own n) u v → fate_at v k ≡ fate_at u k
+pub others_fate : (n k : List ℕ) (u v : View) → IsSFileName n → is_kept (drop 2 n) ≡ false → SameOthers (is_own n) u v → fate_at v k ≡ fate_at u k
 others_fate n k u v sfile plain same = fate_same k u v (same intent_file (own_intent n sfile plain))
 
 -- of another name recovery looks at the same files
-pub others_look : (n k : List ℕ) (u v : View) → IsSfile n → IsSfile k → is_kept (drop 2 n) ≡ false → bytes_eq n k ≡ false → SameOthers (is_own n) u v → LooksAlike k u v
+pub others_look : (n k : List ℕ) (u v : View) → IsSFileName n → IsSFileName k → is_kept (drop 2 n) ≡ false → bytes_eq n k ≡ false → SameOthers (is_own n) u v → LooksAlike k u v
 others_look n k u v sfile other plain apart same = record {
   fate = others_fate n k u v sfile plain same;
   s = same k (own_s n k other plain apart);
@@ -87,10 +87,10 @@ others_look n k u v sfile other plain apart same = record {
 pub moved_s : (n : List ℕ) (f : Files) (v : View) → moved v n (Some f) n ≡ f.s
 moved_s n f v = put_same (put (put (put (put v (l_file n) f.l) (z_file n) f.z) (drop 2 n) f.g) (p_file n) f.p) n f.s
 
-pub moved_p : (n : List ℕ) (f : Files) (v : View) → IsSfile n → moved v n (Some f) (p_file n) ≡ f.p
+pub moved_p : (n : List ℕ) (f : Files) (v : View) → IsSFileName n → moved v n (Some f) (p_file n) ≡ f.p
 moved_p n f v sfile = put_other (put (put (put (put v (l_file n) f.l) (z_file n) f.z) (drop 2 n) f.g) (p_file n) f.p) n (p_file n) f.s (to_s 112 n sfile refl) ∙ put_same (put (put (put v (l_file n) f.l) (z_file n) f.z) (drop 2 n) f.g) (p_file n) f.p
 
-moved_z : (n : List ℕ) (f : Files) (v : View) → IsSfile n → moved v n (Some f) (z_file n) ≡ f.z
+moved_z : (n : List ℕ) (f : Files) (v : View) → IsSFileName n → moved v n (Some f) (z_file n) ≡ f.z
 moved_z n f v sfile =
     let l : View = put v (l_file n) f.l in
     let z : View = put l (z_file n) f.z in
@@ -106,7 +106,7 @@ moved_new n k f v s p g z l =
     put_other (put b (p_file n) f.p) n k f.s s ∙ (put_other b (p_file n) k f.p p ∙ (put_other a (drop 2 n) k f.g g ∙ (put_other d (z_file n) k f.z z ∙ put_other v (l_file n) k f.l l)))
 
 -- a name whose files a step leaves looks as before
-pending_looks : (n : List ℕ) (f : Files) (v : View) → IsSfile n → is_kept (drop 2 n) ≡ false → f.s ≡ v n → f.p ≡ v (p_file n) → f.z ≡ v (z_file n) → LooksAlike n v (moved v n (Some f))
+pending_looks : (n : List ℕ) (f : Files) (v : View) → IsSFileName n → is_kept (drop 2 n) ≡ false → f.s ≡ v n → f.p ≡ v (p_file n) → f.z ≡ v (z_file n) → LooksAlike n v (moved v n (Some f))
 pending_looks n f v sfile plain s p z = record {
   fate = others_fate n n v (moved v n (Some f)) sfile plain (moved_others n v (Some f));
   s = moved_s n f v ∙ s;
@@ -119,7 +119,7 @@ pending_looks n f v sfile plain s p z = record {
 -- ---- a step
 
 -- u is the folder's view, and v the one that is told
-own_by : (w : List ℕ → Bool) (n : List ℕ) (u v : View) (f : Files) (fate : Option Fate) → Spares w → IsSfile n → is_kept (drop 2 n) ≡ false → Alike w v u → RecoversAs u v → (IsSome fate → LeavesLocked (look u n) f) → fate_at u n ≡ fate
+own_by : (w : List ℕ → Bool) (n : List ℕ) (u v : View) (f : Files) (fate : Option Fate) → Spares w → IsSFileName n → is_kept (drop 2 n) ≡ false → Alike w v u → RecoversAs u v → (IsSome fate → LeavesLocked (look u n) f) → fate_at u n ≡ fate
     → recovered_at (moved v n (Some f)) n ≡ recovered_at (moved u n (Some f)) n
 own_by w n u v f None spares sfile plain alike recovers locked is =
     recovered_under n (moved v n (Some f)) None (others_fate n n v (moved v n (Some f)) sfile plain (moved_others n v (Some f)) ∙ (fate_same n u v (alike intent_file spares.intent) ∙ is))
@@ -131,12 +131,12 @@ own_by w n u v f (Some fate) spares sfile plain alike recovers locked is =
     (pending_looks n f v sfile plain (left.s ∙ sym (alike n (spares.s n sfile))) (left.p ∙ sym (alike (p_file n) (spares.p n sfile))) (left.z ∙ sym (alike (z_file n) (spares.z n sfile))))
     ∙ (recovers_to u v recovers n sfile ∙ sym (recovered_alike n u (moved u n (Some f)) (pending_looks n f u sfile plain left.s left.p left.z)))
 
-other_by : (n k : List ℕ) (u v : View) (f : Files) → IsSfile n → IsSfile k → is_kept (drop 2 n) ≡ false → bytes_eq n k ≡ false → RecoversAs u v → recovered_at (moved v n (Some f)) k ≡ recovered_at (moved u n (Some f)) k
+other_by : (n k : List ℕ) (u v : View) (f : Files) → IsSFileName n → IsSFileName k → is_kept (drop 2 n) ≡ false → bytes_eq n k ≡ false → RecoversAs u v → recovered_at (moved v n (Some f)) k ≡ recovered_at (moved u n (Some f)) k
 other_by n k u v f sfile other plain apart recovers =
     recovered_alike k v (moved v n (Some f)) (others_look n k v (moved v n (Some f)) sfile other plain apart (moved_others n v (Some f)))
     ∙ (recovers_to u v recovers k other ∙ sym (recovered_alike k u (moved u n (Some f)) (others_look n k u (moved u n (Some f)) sfile other plain apart (moved_others n u (Some f)))))
 
-pub carried : (w : List ℕ → Bool) (n : List ℕ) (u v : View) (new : Option Files) → Spares w → IsSfile n → is_kept (drop 2 n) ≡ false → Alike w v u → RecoversAs u v → (IsSome (fate_at u n) → (f : Files) → new ≡ Some f → LeavesLocked (look u n) f) → RecoversAs (moved u n new) (moved v n new)
+pub carried : (w : List ℕ → Bool) (n : List ℕ) (u v : View) (new : Option Files) → Spares w → IsSFileName n → is_kept (drop 2 n) ≡ false → Alike w v u → RecoversAs u v → (IsSome (fate_at u n) → (f : Files) → new ≡ Some f → LeavesLocked (look u n) f) → RecoversAs (moved u n new) (moved v n new)
 carried w n u v None spares sfile plain alike recovers locked = recovers
 carried w n u v (Some f) spares sfile plain alike recovers locked =
     recovers_from (moved u n (Some f)) (moved v n (Some f)) (λ k other. ⊎_elim
@@ -161,7 +161,7 @@ intent_there n v named = by (v intent_file) named
     by None some = absurd cc
     by (Some c) some = refl
 
-leaves_by : (x : Action) (n i : List ℕ) (v : View) (o : Outcome) (locks : Bool) → KeepsFiles x → IsSfile n → x.reads ≡ false → x.locks ≡ locks → IsSafeFor x n v → x.step n i (map v (x.named n)) (look v n) ≡ o → IsSome (fate_at v n) → (f : Files) → (effect_of n o).new ≡ Some f → LeavesLocked (look v n) f
+leaves_by : (x : Action) (n i : List ℕ) (v : View) (o : Outcome) (locks : Bool) → KeepsFiles x → IsSFileName n → x.reads ≡ false → x.locks ≡ locks → IsSafeFor x n v → x.step n i (map v (x.named n)) (look v n) ≡ o → IsSome (fate_at v n) → (f : Files) → (effect_of n o).new ≡ Some f → LeavesLocked (look v n) f
 leaves_by x n i v (Err refusal) locks keeps sfile changes l may is named f new = absurd (cc)
 leaves_by x n i v (Ok d) true keeps sfile changes l may is named f new = keeps.locked changes l n i (map v (x.named n)) (look v n) d is (named_held n v (may changes) named) f new
 leaves_by x n i v (Ok d) false keeps sfile changes l may is named f new = absurd (let none = keeps.pending changes l n i v (look v n) d (intent_there n v named) is in cc)

@@ -19,7 +19,7 @@ use Rattle.sccs_sid.specs.declared.refusals.Refusal.{Refusal}
 use Rattle.sccs_sid.specs.declared.refusals.Refusal.TheVariants.{TooLong}
 use Rattle.sccs_steps.specs.Actions.{Action, AreClear, IsHeard, hears, input_steps, kind_hears, kind_of, kind_steps, names_found, names_given, steps_of}
 use Rattle.sccs_steps.specs.Calls.{Scene, World, scene, shown}
-use Rattle.sccs_steps.specs.ListStops.{AreSafe, KeepsSafe, ListMoments, MayBegin, RunMoments, Spares, StaySafe}
+use Rattle.sccs_steps.specs.ListStops.{AreSafe, KeepsSafe, ListCrashPoints, MayBegin, RunCrashPoints, Spares, StaySafe}
 use Rattle.sccs_steps.specs.Messages.{SaysRefusal}
 use Rattle.sccs_steps.specs.Running.{MakesBy, StopsBy}
 use Rattle.sccs_steps.specs.Speaking.{KindBegins, KindMakes, MayStandFor, SpeakNames, SpeaksKind, SpeaksOne}
@@ -34,7 +34,7 @@ use Rattle.sccs_steps.proofs.Cleared.{cleared_same}
 use Rattle.sccs_steps.proofs.FirstMoved.{early_none, shows_none}
 use Rattle.sccs_steps.proofs.JoinedSteps.{ran_then, stops_then}
 use Rattle.sccs_steps.proofs.Fronts.{view_past}
-use Rattle.sccs_steps.proofs.MomentLists.{moments_never, moments_then, run_moments}
+use Rattle.sccs_steps.proofs.CrashPointLists.{crash_points_never, crash_points_then, run_crash_points}
 use Rattle.sccs_steps.proofs.NameLaws.{refusal_runs, speak_refusal, speak_whole}
 use Rattle.sccs_steps.proofs.NameStops.{refusal_stops}
 use Rattle.sccs_steps.proofs.SafeImages.{images_now, images_then}
@@ -67,9 +67,9 @@ never_begun x steps given fault old new out err some same = λ w m i spares clea
 
 pub never_stops : (x : Action) (steps : Folder → List ℕ → List NamedStep) (given : List ℕ → Type 0) (fault : Fault) (old new : Told) (out err : Option (List ℕ)) → new ≡ old → StopsBy x steps given (Err fault) (scene old out err) (scene new out err)
 never_stops x steps given fault old new out err same = λ w folder i m past spares clear shows heard is calm safe.
-    subst (λ (t : Told). RunMoments x w (Err fault) folder (steps folder i) (scene old out err) (scene t out err) m past) (sym same)
-    (run_moments x w (Err fault) folder (steps folder i) (scene old out err) (scene old out err) m past
-    (moments_never w fault folder (steps folder i) (scene old out err) m past is calm shows) (λ other. stay_same x (view_in folder)) (λ other. keeps_same (view_in folder)) (images_now m))
+    subst (λ (t : Told). RunCrashPoints x w (Err fault) folder (steps folder i) (scene old out err) (scene t out err) m past) (sym same)
+    (run_crash_points x w (Err fault) folder (steps folder i) (scene old out err) (scene old out err) m past
+    (crash_points_never w fault folder (steps folder i) (scene old out err) m past is calm shows) (λ other. stay_same x (view_in folder)) (λ other. keeps_same (view_in folder)) (images_now m))
 
 -- ---- names that were found, and their steps
 
@@ -80,7 +80,7 @@ pub found_runs : (rule : StatusRule) (w : List ℕ → Bool) (r : Result ℕ Fau
 found_runs rule w (Ok status) m ts a b shows runs = (runs.0 ∙ sym (idle_first rule (status_of rule ts)), ran_then w m (names_found rule ∷ []) ts a a b (found_ran rule w m a shows) runs.1)
 found_runs rule w (Err fault) m ts a b shows runs = stops_then w fault m (names_found rule ∷ []) ts a a b (found_ran rule w m a shows) runs
 
-abbrev moments_found : (rule : StatusRule) (w : List ℕ → Bool) (folder : Folder) (a : Scene) (m : Model) (past : List Model) → a.told ≡ Tells m past → MayBegin folder m → Shows w (seen a.told) (view_in folder) → ListMoments w (Ok (idle_status rule)) folder (names_found rule ∷ []) a a m past
+abbrev moments_found : (rule : StatusRule) (w : List ℕ → Bool) (folder : Folder) (a : Scene) (m : Model) (past : List Model) → a.told ≡ Tells m past → MayBegin folder m → Shows w (seen a.told) (view_in folder) → ListCrashPoints w (Ok (idle_status rule)) folder (names_found rule ∷ []) a a m past
 moments_found rule w folder a m past is may shows = record {
   number = 1;
   most = omega arith;
@@ -99,11 +99,11 @@ moments_found rule w folder a m past is may shows = record {
   firm = calm_firm m may.calm;
 }
 
-pub found_moments : (x : Action) (w : List ℕ → Bool) (r : Result ℕ Fault) (folder : Folder) (ts : List NamedStep) (a b : Scene) (m : Model) (past : List Model) → a.told ≡ Tells m past → MayBegin folder m → Shows w (seen a.told) (view_in folder) → RunMoments x w r folder ts a b m past
-    → RunMoments x w r folder (names_found x.rule ∷ ts) a b m past
-found_moments x w r folder ts a b m past is may shows next =
-    run_moments x w r folder (names_found x.rule ∷ ts) a b m past
-    (moments_then w (idle_status x.rule) r folder (names_found x.rule ∷ []) ts a a b m past (found_ran x.rule w folder (shown a) shows) (moments_found x.rule w folder a m past is may shows) next.list)
+pub found_crash_points : (x : Action) (w : List ℕ → Bool) (r : Result ℕ Fault) (folder : Folder) (ts : List NamedStep) (a b : Scene) (m : Model) (past : List Model) → a.told ≡ Tells m past → MayBegin folder m → Shows w (seen a.told) (view_in folder) → RunCrashPoints x w r folder ts a b m past
+    → RunCrashPoints x w r folder (names_found x.rule ∷ ts) a b m past
+found_crash_points x w r folder ts a b m past is may shows next =
+    run_crash_points x w r folder (names_found x.rule ∷ ts) a b m past
+    (crash_points_then w (idle_status x.rule) r folder (names_found x.rule ∷ []) ts a a b m past (found_ran x.rule w folder (shown a) shows) (moments_found x.rule w folder a m past is may shows) next.list)
     (λ other. subst (λ (v : View). StaySafe x (view_in folder) v) (sym (view_past folder (names_found x.rule ∷ []) ts next.list.number)) (next.safe other))
     (λ other. subst (λ (v : View). KeepsSafe (view_in folder) v) (sym (view_past folder (names_found x.rule ∷ []) ts next.list.number)) (next.keeps other))
     (images_then next.list.went.added [] m (images_now m) next.images)
@@ -129,10 +129,10 @@ found_by x names found r left a b w m i never is makes spares clear shows =
 
 stops_by : (x : Action) (names found : List (List ℕ)) (r : Result ℕ Fault) (left : Option (List ℕ)) (a b : Scene) (w : List ℕ → Bool) (folder : Folder) (i : List ℕ) (m : Model) (past : List Model) → x.takes ≡ false → names ≡ found → StopsBy x (λ m i. steps_of x i m names) (IsHeard x.takes left) r a b
     → Spares w → AreClear x w (names_found x.rule ∷ steps_of x i folder found) → Shows w (seen a.told) (view_in folder) → a.told ≡ Tells m past → MayBegin folder m → AreSafe x (names_found x.rule ∷ steps_of x i folder found) (view_in folder)
-    → RunMoments x w r folder (names_found x.rule ∷ steps_of x i folder found) a b m past
+    → RunCrashPoints x w r folder (names_found x.rule ∷ steps_of x i folder found) a b m past
 stops_by x names found r left a b w folder i m past never is stops spares clear shows told calm safe =
-    found_moments x w r folder (steps_of x i folder found) a b m past told calm shows
-    (subst (λ ns. RunMoments x w r folder (steps_of x i folder ns) a b m past) is
+    found_crash_points x w r folder (steps_of x i folder found) a b m past told calm shows
+    (subst (λ ns. RunCrashPoints x w r folder (steps_of x i folder ns) a b m past) is
     (stops w folder i m past spares (subst (λ ns. AreClear x w (steps_of x i folder ns)) (sym is) clear.1) shows (inl never) told calm (subst (λ ns. AreSafe x (steps_of x i folder ns) (view_in folder)) (sym is) safe.1)))
 
 -- ---- the files that are there
@@ -214,7 +214,7 @@ pub input_stops : (x : Action) (lines : List (List ℕ)) (r : Result ℕ Fault) 
     → StopsBy x (λ m i. input_steps x i m (Ok (filter x.fits lines))) (IsHeard x.takes left2) r a b → StopsBy x (λ m i. kind_steps x i m [] FromInput) (IsHeard true left) r a b
 input_stops x lines r left left2 a b never told stops = λ w folder i m past spares clear shows heard is calm safe.
     let found : names_given x i ≡ Ok (filter x.fits lines) = input_names x left i lines heard told in
-    subst (λ (ns : Result (List (List ℕ)) Refusal). RunMoments x w r folder (input_steps x i folder ns) a b m past) (sym found)
+    subst (λ (ns : Result (List (List ℕ)) Refusal). RunCrashPoints x w r folder (input_steps x i folder ns) a b m past) (sym found)
     (stops w folder i m past spares (subst (λ (ns : Result (List (List ℕ)) Refusal). AreClear x w (input_steps x i folder ns)) found clear) shows (inl never) is calm
     (subst (λ (ns : Result (List (List ℕ)) Refusal). AreSafe x (input_steps x i folder ns) (view_in folder)) found safe))
 
@@ -232,7 +232,7 @@ long_makes x r left a err told says = λ w m i spares clear shows heard.
 pub long_stops : (x : Action) (r : Result ℕ Fault) (left : Option (List ℕ)) (a : Scene) (err : Option (List ℕ)) → IfSome left (λ bytes. GivesLines file_limit bytes (Err take.TooLong)) → SaysRefusal (codes "-") TooLong r a.err err
     → StopsBy x (λ m i. kind_steps x i m [] FromInput) (IsHeard true left) r a (scene a.told a.out err)
 long_stops x r left a err told says = λ w folder i m past spares clear shows heard is calm safe.
-    subst (λ (found : Result (List (List ℕ)) Refusal). RunMoments x w r folder (input_steps x i folder found) a (scene a.told a.out err) m past) (sym (long_names x left i heard told))
+    subst (λ (found : Result (List (List ℕ)) Refusal). RunCrashPoints x w r folder (input_steps x i folder found) a (scene a.told a.out err) m past) (sym (long_names x left i heard told))
     (refusal_stops x w r folder (codes "-") TooLong a err m past is calm shows says)
 
 pub long_speaks : (x : Action) (r : Result ℕ Fault) (err err2 : Option (List ℕ)) → SaysRefusal (codes "-") TooLong r err err2 → SpeaksKind x FromInput [] r err err2

@@ -8,13 +8,13 @@ pub mod Gifts
 pub mod JoinedSteps
 pub mod KindLaws
 pub mod LoneOperands
-pub mod MomentLists
+pub mod CrashPointLists
 pub mod NameLaws
 pub mod NameStops
-pub mod OneMoment
+pub mod OneCrashPoint
 pub mod OneStep
 pub mod OrdinaryLaws
-pub mod ReadingMoments
+pub mod ReadingCrashPoints
 pub mod ReadingSteps
 pub mod RecoveringSteps
 pub mod SafeImages

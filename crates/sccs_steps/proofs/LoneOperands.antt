@@ -4,7 +4,7 @@ use Rattle.std.proofs.lemmas.List.{append-nil}
 use Rattle.sccs_disk.specs.Files.{Folder, view_in}
 use Rattle.sccs_steps.specs.Actions.{Action, AreClear, IsHeard, hears, kind_hears, kind_of, operand_steps, steps_at}
 use Rattle.sccs_steps.specs.Calls.{shown}
-use Rattle.sccs_steps.specs.ListStops.{AreSafe, RunMoments}
+use Rattle.sccs_steps.specs.ListStops.{AreSafe, RunCrashPoints}
 use Rattle.sccs_steps.specs.Running.{RunsOperand, RunsOperands}
 use Rattle.sccs_steps.specs.Recovering.{has_made}
 use Rattle.sccs_steps.specs.Settings.{Setting}
@@ -30,7 +30,7 @@ lone_operand x operand r s t runs = record {
       subst (λ (ts : List NamedStep). Runs x.rule w r m ts (shown s.stage) (shown t.stage)) (sym (alone x m i operand))
       (runs.steps w m i spares (subst (λ (ts : List NamedStep). AreClear x w ts) (alone x m i operand) clear) shows (subst (λ hearing. IsHeard hearing s.left i) (hears_one x operand) given.0));
   stops = λ w folder i m past spares clear shows given is calm safe.
-      subst (λ (ts : List NamedStep). RunMoments x w r folder ts s.stage t.stage m past) (sym (alone x folder i operand))
+      subst (λ (ts : List NamedStep). RunCrashPoints x w r folder ts s.stage t.stage m past) (sym (alone x folder i operand))
       (runs.stops w folder i m past spares (subst (λ (ts : List NamedStep). AreClear x w ts) (alone x folder i operand) clear) shows (subst (λ hearing. IsHeard hearing s.left i) (hears_one x operand) given.0) is calm
       (subst (λ (ts : List NamedStep). AreSafe x ts (view_in folder)) (alone x folder i operand) safe));
   unlocked = λ w folder i spares clear shows given exempt plain are.

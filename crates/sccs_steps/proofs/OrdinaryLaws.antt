@@ -6,14 +6,14 @@ use Rattle.sccs_disk.specs.Told.{Told}
 use Rattle.sccs_name_files.specs.StepFiles.{look}
 use Rattle.sccs_sid.specs.declared.refusals.StepFault.{StepFault}
 use Rattle.sccs_sid.specs.declared.refusals.StepFault.TheVariants.{Refused, Memory, ReadFault, WriteFault, DiskFault}
-use Rattle.sccs_crash_points.specs.Moments.{LeavesCalm}
+use Rattle.sccs_crash_points.specs.CrashPoints.{LeavesCalm}
 use Rattle.sccs_steps.specs.Actions.{Action, SpeaksBy, SpeaksByAs, Stepped, SteppedAs}
 use Rattle.sccs_steps.specs.Calls.{Scene}
 use Rattle.sccs_steps.specs.Causes.{Counts, Ignores, StepCauses}
 use Rattle.sccs_steps.specs.Ordinaries.{ordinary}
 use Rattle.sccs_steps.specs.Recovering.{StepRecovers}
 use Rattle.sccs_steps.specs.StepEffects.{Outcome}
-use Rattle.sccs_steps.specs.StepStops.{MeetsAt, MeetsAtAs, StepMoments, StepMomentsAs}
+use Rattle.sccs_steps.specs.StepStops.{MeetsAt, MeetsAtAs, StepCrashPoints, StepCrashPointsAs}
 use Rattle.sccs_steps.specs.Statuses.{with_status}
 
 pub status_steps : (x : Action) (r : Result (Unit {0}) StepFault) (n : List ℕ) (left : Option (List ℕ)) (a b : Scene) → Stepped x r n left a b → SteppedAs (λ (status : ℕ). status) (ordinary x) (with_status r) n left a b
@@ -25,13 +25,13 @@ cut_report : (x : Action) (n : List ℕ) (o : Outcome) (v : View) (m : Model) (p
 cut_report x n o v m past a b (inl kept, ends) = (inl kept, ends)
 cut_report x n o v m past a b (inr cut, ends) = (inr cut, ends)
 
-pub status_moments : (x : Action) (r : Result (Unit {0}) StepFault) (n : List ℕ) (left : Option (List ℕ)) (a b : Scene) → StepMoments x r n left a b → StepMomentsAs (λ (status : ℕ). status) (ordinary x) (with_status r) n left a b
-status_moments x (Ok done) n left a b moments = moments
-status_moments x (Err (Refused refusal)) n left a b moments = moments
-status_moments x (Err Memory) n left a b moments = moments
-status_moments x (Err ReadFault) n left a b moments = moments
-status_moments x (Err WriteFault) n left a b moments = λ m past i is heard calm safe. cut_report x n (x.step n i (map (view_of m) (x.named n)) (look (view_of m) n)) (view_of m) m past a b (moments m past i is heard calm safe)
-status_moments x (Err DiskFault) n left a b moments = moments
+pub status_crash_points : (x : Action) (r : Result (Unit {0}) StepFault) (n : List ℕ) (left : Option (List ℕ)) (a b : Scene) → StepCrashPoints x r n left a b → StepCrashPointsAs (λ (status : ℕ). status) (ordinary x) (with_status r) n left a b
+status_crash_points x (Ok done) n left a b crash_points = crash_points
+status_crash_points x (Err (Refused refusal)) n left a b crash_points = crash_points
+status_crash_points x (Err Memory) n left a b crash_points = crash_points
+status_crash_points x (Err ReadFault) n left a b crash_points = crash_points
+status_crash_points x (Err WriteFault) n left a b crash_points = λ m past i is heard calm safe. cut_report x n (x.step n i (map (view_of m) (x.named n)) (look (view_of m) n)) (view_of m) m past a b (crash_points m past i is heard calm safe)
+status_crash_points x (Err DiskFault) n left a b crash_points = crash_points
 
 pub status_speaks : (x : Action) (r : Result (Unit {0}) StepFault) (n : List ℕ) (err err2 : Option (List ℕ)) → SpeaksBy x.could r n err err2 → SpeaksByAs (λ (status : ℕ). status) (ordinary x).could (with_status r) n err err2
 status_speaks x (Ok done) n err err2 speaks = speaks

@@ -11,7 +11,7 @@ use Rattle.sccs_base.specs.declared.streams.TakeFault.TheVariants as take
 use Rattle.sccs_disk.specs.Files.{Folder, view_in}
 use Rattle.sccs_disk.specs.Told.{Told, seen}
 use Rattle.sccs_name_files.specs.StepFiles.{Shows}
-use Rattle.sccs_crash_points.specs.Moments.{KeepsCalm, LeavesCalm, LeavesFirm, RecoversOn}
+use Rattle.sccs_crash_points.specs.CrashPoints.{KeepsCalm, LeavesCalm, LeavesFirm, RecoversOn}
 use Rattle.sccs_crash_points.proofs.Recoveries.{calm_kept_on, calm_later, calm_same, firm_same, firm_then, keeps_then, story_same, story_then}
 use Rattle.sccs_operands.specs.FolderNames.{HasSfilesOf, sfiles_in}
 use Rattle.sccs_operands.specs.InputNames.{GivesLines}

@@ -2,7 +2,7 @@
 use Rattle.std.proofs.Common.{◌≡◌, ◌⊎◌, ℕ, Bool, true, false, cond, List, [], ◌∷◌, ◌++◌, drop, Option, None, Some, is_some, inl, inr, refl, sym, ap, subst, ◌∙◌, ⊎_elim}
 use Rattle.std.proofs.lemmas.List.{append_cancel_right}
 use Rattle.std.specs.Prelude.{IsSome}
-use Rattle.sccs_base.specs.Name.{IsSfile, p_file, z_file}
+use Rattle.sccs_base.specs.Name.{IsSFileName, p_file, z_file}
 use Rattle.sccs_disk.specs.Files.{Content, Model, View, view_of}
 use Rattle.sccs_disk.specs.Images.{Allows, Image}
 use Rattle.sccs_disk.specs.Told.{Nothing, Shows, Told, Tells}
@@ -15,7 +15,7 @@ use Rattle.sccs_intents.specs.declared.intents.Fate.{Fate}
 use Rattle.sccs_pfile.specs.Recovered.{recovered_pfile}
 use Rattle.sccs_pfile.proofs.Recovering.{twice_once}
 use Rattle.sccs_crash_points.specs.Calm.{IsCalm, KeepsPairs}
-use Rattle.sccs_crash_points.specs.Moments.{EndsAfter, EndsBefore, EndsWithin, IsAt, Numbered}
+use Rattle.sccs_crash_points.specs.CrashPoints.{EndsAfter, EndsBefore, EndsWithin, IsAt, Numbered}
 use Rattle.sccs_crash_points.specs.Recovery.{IsSound, RecoversAs, fate_at, is_kept}
 use Rattle.sccs_crash_points.specs.Unlocked.{IsHeldIn, KeptHeld, KeptOthers, LeavesOthers, is_own}
 use Rattle.sccs_crash_points.proofs.Recovering.{fate_same, p_of, recovered, recovered_under, recovers_to, s_of}
@@ -35,7 +35,7 @@ left_sound : (n : List ℕ) (v : View) (z : Bool) → is_some (v (z_file n)) ≡
 left_sound n v true is safe = twice_once (v n) (v (p_file n))
 left_sound n v false is safe = (safe.sound (none_of (v (z_file n)) is)).entries
 
-sound_by : (n : List ℕ) (v u : View) (f : Option Fate) → IsSfile n → RecoversAs v u → fate_at v n ≡ f → fate_at u n ≡ f → (IsSome f → IsSome (u (z_file n))) → IsSafe n v → u (z_file n) ≡ None → IsSound n u
+sound_by : (n : List ℕ) (v u : View) (f : Option Fate) → IsSFileName n → RecoversAs v u → fate_at v n ≡ f → fate_at u n ≡ f → (IsSome f → IsSome (u (z_file n))) → IsSafe n v → u (z_file n) ≡ None → IsSound n u
 sound_by n v u (Some fate) sfile recovers old new held safe none = absurd (let there = held refl in let e : false ≡ true = sym (ap is_some none) ∙ there in cc)
 sound_by n v u None sfile recovers old new held safe none =
     let both : recovered (u n) (u (p_file n)) (is_some (u (z_file n))) ≡ recovered (v n) (v (p_file n)) (is_some (v (z_file n))) =
@@ -50,7 +50,7 @@ sound_by n v u None sfile recovers old new held safe none =
     }
 
 -- where the intent says the same of the name, and its z-file is there if it is named
-pub recovers_safe : (n : List ℕ) (v u : View) → IsSfile n → RecoversAs v u → fate_at u n ≡ fate_at v n → (IsSome (fate_at v n) → IsSome (u (z_file n))) → IsSafe n v → IsSafe n u
+pub recovers_safe : (n : List ℕ) (v u : View) → IsSFileName n → RecoversAs v u → fate_at u n ≡ fate_at v n → (IsSome (fate_at v n) → IsSome (u (z_file n))) → IsSafe n v → IsSafe n u
 recovers_safe n v u sfile recovers fate held safe = record {
   plain = safe.plain;
   sound = λ none. sound_by n v u (fate_at v n) sfile recovers refl fate held safe none;
@@ -58,7 +58,7 @@ recovers_safe n v u sfile recovers fate held safe = record {
   settled = pair_settled n v u (recovers n sfile) safe.settled;
 }
 
--- ---- moments
+-- ---- crash points
 
 pub numbered_each : (P : ℕ → View → Type 0) (Q : View → Type 0) (low : ℕ) (added : List Model) (m : Model) (j : ℕ) → ((i : ℕ) (w : View) → P i w → Q w) → Numbered (λ i m2. Allows (P i) m2) low added m j → Each (Allows Q) added m
 numbered_each P Q low [] m j as_q numbers = λ w image. as_q j w (numbers.1 w image)
@@ -73,7 +73,7 @@ pub images_now : (m : Model) → Allows (KeepsSafeFrom m) m
 images_now m = λ u image n sfile all. all u image
 
 -- on a calm disk a name that is safe in the view is safe in whatever a stop leaves, where it is held if an intent names it
-pub calm_safe : (n : List ℕ) (m : Model) → IsSfile n → IsCalm m → (IsSome (fate_at (view_of m) n) → IsHeldIn n m) → IsSafe n (view_of m) → Allows (IsSafe n) m
+pub calm_safe : (n : List ℕ) (m : Model) → IsSFileName n → IsCalm m → (IsSome (fate_at (view_of m) n) → IsHeldIn n m) → IsSafe n (view_of m) → Allows (IsSafe n) m
 calm_safe n m sfile calm held safe = λ u image. recovers_safe n (view_of m) u sfile (calm u image).recovers (fate_same n (view_of m) u (calm u image).intent) (λ named. held named u image) safe
 
 -- one list behind another
@@ -92,7 +92,7 @@ each_under : (A : Type 0) (P : Model → Type 0) (added : List Model) (m : Model
 each_under A P [] m holds = λ a. holds a
 each_under A P (b ∷ added) m holds = (λ a. (holds a).0, each_under A P added m (λ a. (holds a).1))
 
--- ---- the moments of a call are those that are told
+-- ---- the crash points of a call are those that are told
 
 abbrev models : Told → List Model
 models Nothing = []
@@ -103,7 +103,7 @@ pub told_once : (xs ys : List Model) (m : Model) (past : List Model) (t : Told) 
 told_once xs ys m past t one two =
     append_cancel_right xs ys (m ∷ past) (sym (story_of xs m past) ∙ (ap models (sym one ∙ two) ∙ story_of ys m past))
 
--- ---- the moments of a step
+-- ---- the crash points of a step
 
 -- a folder that recovers as before the step, or as after it, where the name is safe
 abbrev pub AtStep : Action → List ℕ → View → View → View → Type 0
@@ -117,7 +117,7 @@ record StepImage (x : Action) (n : List ℕ) (m : Model) (w u : View) : Type 0 w
   same : (k : List ℕ) → is_own n k ≡ false → u k ≡ before k
   held : IsSome (fate_at (view_of m) n) → IsHeldIn n m → IsSome (u (z_file n))
 
-step_image : (x : Action) (n : List ℕ) (m : Model) (w u : View) → IsSfile n → x.reads ≡ false → IsCalm m → IsSafeFor x n (view_of m) → fate_at w n ≡ fate_at (view_of m) n → StepImage x n m w u → KeepsSafeFrom m u
+step_image : (x : Action) (n : List ℕ) (m : Model) (w u : View) → IsSFileName n → x.reads ≡ false → IsCalm m → IsSafeFor x n (view_of m) → fate_at w n ≡ fate_at (view_of m) n → StepImage x n m w u → KeepsSafeFrom m u
 step_image x n m w u sfile changes calm may same_w known = λ k other all.
     ⊎_elim (λ e. subst (λ l. Allows (IsSafe l) m → IsSafe l u) e own all)
     (λ apart. same_safe k known.before u other (others_look n k known.before u sfile other plain apart known.same) (all known.before known.image)) (name_cases n k)
@@ -148,7 +148,7 @@ step_images x n a b m past new added keeps fits calm may told same leaves is at 
     by true reads = subst (λ (xs : List Model). Each (Allows (KeepsSafeFrom m)) xs m) (told_once [] added m past b (same reads ∙ told) is) (images_now m)
     by false changes = changed (leaves.0 changes m past told)
       where
-        sfile : IsSfile n
+        sfile : IsSFileName n
         sfile = keeps.names changes n fits
 
         fate : fate_at (moved (view_of m) n new) n ≡ fate_at (view_of m) n

@@ -1,7 +1,7 @@
 -- Safe names stay safe from step to step.
 use Rattle.std.proofs.Common.{◌≡◌, ℕ, Bool, true, false, List, drop, Option, None, Some, is_some, refl, sym, ap, subst, ◌∙◌, ⊎_elim}
 use Rattle.std.specs.Str.{bytes_eq}
-use Rattle.sccs_base.specs.Name.{IsSfile, p_file, z_file}
+use Rattle.sccs_base.specs.Name.{IsSFileName, p_file, z_file}
 use Rattle.sccs_disk.specs.Files.{Content, Folder, View, view_in}
 use Rattle.sccs_disk.proofs.Puts.{name_cases}
 use Rattle.sccs_name_files.specs.StepFiles.{Alike, Files, moved, moved_in, placed}
@@ -23,7 +23,7 @@ none_of None is = refl
 none_of (Some c) is = cc
 
 -- where recovery leaves the pair
-pub sound_settled : (n : List ℕ) (v : View) → IsSfile n → IsSound n v → IsSettledPair (pair_of (recover n v) n)
+pub sound_settled : (n : List ℕ) (v : View) → IsSFileName n → IsSound n v → IsSettledPair (pair_of (recover n v) n)
 sound_settled n v sfile sound = subst IsSettledPair (sym (sound_pair n v sfile sound)) sound.entries
 
 -- what recovers to the same pair
@@ -34,11 +34,11 @@ pub pair_paired : (n : List ℕ) (u v : View) → pair_of (recover n v) n ≡ pa
 pair_paired n u v same paired = subst (λ (x : Pair). ArePaired x.s x.p) (sym same) paired
 
 -- where recovery leaves the pair
-pub sound_paired : (n : List ℕ) (v : View) → IsSfile n → IsSound n v → IsPaired n v → IsPaired n (recover n v)
+pub sound_paired : (n : List ℕ) (v : View) → IsSFileName n → IsSound n v → IsPaired n v → IsPaired n (recover n v)
 sound_paired n v sfile sound paired = subst (λ (x : Pair). ArePaired x.s x.p) (sym (sound_pair n v sfile sound)) paired
 
 -- a safe name that isn't locked has no p-file without an s-file
-pub paired_now : (n : List ℕ) (v : View) → IsSfile n → v (z_file n) ≡ None → IsSafe n v → IsPaired n v
+pub paired_now : (n : List ℕ) (v : View) → IsSFileName n → v (z_file n) ≡ None → IsSafe n v → IsPaired n v
 paired_now n v sfile free safe = subst (λ (x : Pair). ArePaired x.s x.p) (sound_pair n v sfile (safe.sound free)) safe.paired
 
 sound_same : (n : List ℕ) (u v : View) → u n ≡ v n → u (p_file n) ≡ v (p_file n) → fate_at v n ≡ fate_at u n → IsSound n u → IsSound n v
@@ -48,7 +48,7 @@ sound_same n u v s p fate sound = record {
 }
 
 -- the same files at which recovery looks
-pub same_safe : (n : List ℕ) (u v : View) → IsSfile n → LooksAlike n u v → IsSafe n u → IsSafe n v
+pub same_safe : (n : List ℕ) (u v : View) → IsSFileName n → LooksAlike n u v → IsSafe n u → IsSafe n v
 same_safe n u v sfile looks safe = record {
   plain = safe.plain;
   sound = λ none. sound_same n u v (sym looks.s) (sym looks.p) looks.fate (safe.sound (none_of (u (z_file n)) (sym looks.z ∙ ap is_some none)));
@@ -57,7 +57,7 @@ same_safe n u v sfile looks safe = record {
 }
 
 -- views that are alike but for working files, and recover alike
-pub alike_safe : (work : List ℕ → Bool) (n : List ℕ) (u v : View) → Spares work → IsSfile n → Alike work u v → RecoversAs u v → IsSafe n u → IsSafe n v
+pub alike_safe : (work : List ℕ → Bool) (n : List ℕ) (u v : View) → Spares work → IsSFileName n → Alike work u v → RecoversAs u v → IsSafe n u → IsSafe n v
 alike_safe work n u v spares sfile alike recovers safe = record {
   plain = safe.plain;
   sound = λ none. sound_same n u v (alike n (spares.s n sfile)) (alike (p_file n) (spares.p n sfile)) (fate_same n u v (sym (alike intent_file spares.intent)))
@@ -67,7 +67,7 @@ alike_safe work n u v spares sfile alike recovers safe = record {
 }
 
 -- what recovers as a view in which a name is safe, where the name is held if an intent names it
-pub safe_by : (n : List ℕ) (v u : View) → IsSfile n → RecoversAs v u → IsHeldAt n u → IsSafe n v → IsSafe n u
+pub safe_by : (n : List ℕ) (v u : View) → IsSFileName n → RecoversAs v u → IsHeldAt n u → IsSafe n v → IsSafe n u
 safe_by n v u sfile recovers held safe = record {
   plain = safe.plain;
   sound = λ none. by none (fate_at u n) refl;
@@ -85,7 +85,7 @@ safe_by n v u sfile recovers held safe = record {
         record { entries = subst IsSettledPair same settled; unnamed = is }
 
 -- new files of a name that no intent names
-pub placed_safe : (n : List ℕ) (v : View) (f : Files) → IsSfile n → is_kept (drop 2 n) ≡ false → fate_at v n ≡ None → recovered_pfile f.s f.p ≡ f.p → ArePaired f.s f.p → IsSafe n (placed v n f)
+pub placed_safe : (n : List ℕ) (v : View) (f : Files) → IsSFileName n → is_kept (drop 2 n) ≡ false → fate_at v n ≡ None → recovered_pfile f.s f.p ≡ f.p → ArePaired f.s f.p → IsSafe n (placed v n f)
 placed_safe n v f sfile plain free entries paired = record {
   plain = plain;
   sound = λ none. sound;
@@ -100,7 +100,7 @@ placed_safe n v f sfile plain free entries paired = record {
     }
 
 -- new files of another name
-other_moved : (n k : List ℕ) (v : View) (new : Option Files) → IsSfile n → IsSfile k → is_kept (drop 2 n) ≡ false → bytes_eq n k ≡ false → IsSafe k v → IsSafe k (moved v n new)
+other_moved : (n k : List ℕ) (v : View) (new : Option Files) → IsSFileName n → IsSFileName k → is_kept (drop 2 n) ≡ false → bytes_eq n k ≡ false → IsSafe k v → IsSafe k (moved v n new)
 other_moved n k v new sfile other plain apart safe = same_safe k v (moved v n new) other (others_look n k v (moved v n new) sfile other plain apart (moved_others n v new)) safe
 
 -- ---- names

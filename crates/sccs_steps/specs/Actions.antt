@@ -4,7 +4,7 @@ use Rattle.std.specs.List.{AllByRecursion, filter, list_any}
 use Rattle.std.specs.Str.{bytes_eq}
 use Rattle.sccs_base.specs.Constants.{file_limit}
 use Rattle.sccs_base.specs.Cut.{text_of}
-use Rattle.sccs_base.specs.Name.{IsSfile, p_file, z_file}
+use Rattle.sccs_base.specs.Name.{IsSFileName, p_file, z_file}
 use Rattle.sccs_base.specs.Stream.{GivesOk, GivesSome}
 use Rattle.sccs_sid.specs.Reading.{is_empty}
 use Rattle.sccs_sid.specs.Refusal.{number_of}
@@ -131,7 +131,7 @@ pub record LeavesLocked (f g : Files) : Type 0 where
 -- leaves the files of a locked one, and one that doesn't changes nothing while an intent is there.
 pub record KeepsFiles (x : Action) : Type 0 where
   pub quiet : x.reads ≡ true → (n i : List ℕ) (named : List (Option Content)) (f : Files) (d : StepEffect) → x.step n i named f ≡ Ok d → d.new ≡ None
-  pub names : x.reads ≡ false → (n : List ℕ) → x.fits n ≡ true → IsSfile n
+  pub names : x.reads ≡ false → (n : List ℕ) → x.fits n ≡ true → IsSFileName n
   pub locked : x.reads ≡ false → x.locks ≡ true → (n i : List ℕ) (named : List (Option Content)) (f : Files) (d : StepEffect)
       → x.step n i named f ≡ Ok d → IsSome f.z → (g : Files) → d.new ≡ Some g → LeavesLocked f g
   pub pending : x.reads ≡ false → x.locks ≡ false → (n i : List ℕ) (v : View) (f : Files) (d : StepEffect)

@@ -1,14 +1,14 @@
--- The moments of a list of steps that began on a calm disk, and which of the steps are acknowledged.
+-- The crash points of a list of steps that began on a calm disk, and which of the steps are acknowledged.
 use Rattle.std.specs.Prelude.{◌≡◌, ◌≢◌, ℕ, suc, ◌+◌, ◌-◌, ◌<◌, ◌≤◌, ◌⊎◌, Bool, true, false, List, ◌++◌, length, take, drop, Option, None, Some, Result, Err, IsOk}
 use Rattle.std.specs.List.{AllByRecursion}
-use Rattle.sccs_base.specs.Name.{IsSfile, p_file, z_file}
+use Rattle.sccs_base.specs.Name.{IsSFileName, p_file, z_file}
 use Rattle.sccs_base.specs.Stream.{GivesSome}
 use Rattle.sccs_disk.specs.Files.{Folder, Model, View, view_in, view_of}
 use Rattle.sccs_disk.specs.Images.{Allows}
 use Rattle.sccs_disk.specs.Told.{seen}
 use Rattle.sccs_name_files.specs.Touches.{Each, newest}
 use Rattle.sccs_crash_points.specs.Calm.{HasFirm, IsCalm}
-use Rattle.sccs_crash_points.specs.Moments.{Went}
+use Rattle.sccs_crash_points.specs.CrashPoints.{Went}
 use Rattle.sccs_intents.specs.Intents.{intent_file}
 use Rattle.sccs_crash_points.specs.Recovery.{RecoversAs}
 use Rattle.sccs_steps.specs.Actions.{Action}
@@ -44,7 +44,7 @@ given_more (Some given) (Some after) = length after - length given
 abbrev pub IsAcknowledged : Result ℕ Fault → List NamedStep → ℕ → World → World → Type 0
 IsAcknowledged r ts k a b = (length (out_before ts k) < given_more a.out b.out) ⊎ ((length (err_before ts k) < given_more a.err b.err) ⊎ IsOk r)
 
--- ---- moments
+-- ---- crash points
 
 -- a folder that recovers as the view of this number, or as the next one up to the last
 abbrev pub IsAtNumber : (ℕ → View) → ℕ → ℕ → View → Type 0
@@ -57,7 +57,7 @@ pub record MayBegin (folder : Folder) (m : Model) : Type 0 where
   pub recovers : RecoversAs (view_in folder) (view_of m)
 
 -- From a calm model on: where the call ends, as a list of steps from a folder on.
-pub record ListMoments (w : List ℕ → Bool) (r : Result ℕ Fault) (folder : Folder) (ts : List NamedStep) (a b : Scene) (m : Model) (past : List Model) : Type 0 where
+pub record ListCrashPoints (w : List ℕ → Bool) (r : Result ℕ Fault) (folder : Folder) (ts : List NamedStep) (a b : Scene) (m : Model) (past : List Model) : Type 0 where
   -- the number of the last moment
   pub number : ℕ
   pub most : number ≤ length ts
@@ -87,23 +87,23 @@ StaySafe x u v = (n : List ℕ) → x.fits n ≡ true → IsSafeFor x n u → Is
 
 -- the same of every s-file's name
 abbrev pub KeepsSafe : View → View → Type 0
-KeepsSafe u v = (n : List ℕ) → IsSfile n → IsSafe n u → IsSafe n v
+KeepsSafe u v = (n : List ℕ) → IsSFileName n → IsSafe n u → IsSafe n v
 
 -- each s-file's name is safe in the view that is safe in whatever a stop may leave of the model
 abbrev pub KeepsSafeFrom : Model → View → Type 0
-KeepsSafeFrom m v = (n : List ℕ) → IsSfile n → Allows (IsSafe n) m → IsSafe n v
+KeepsSafeFrom m v = (n : List ℕ) → IsSFileName n → Allows (IsSafe n) m → IsSafe n v
 
 -- no s-file, p-file or z-file is a working file, nor is the intent
 pub record Spares (w : List ℕ → Bool) : Type 0 where
-  pub s : (n : List ℕ) → IsSfile n → w n ≡ false
-  pub p : (n : List ℕ) → IsSfile n → w (p_file n) ≡ false
-  pub z : (n : List ℕ) → IsSfile n → w (z_file n) ≡ false
+  pub s : (n : List ℕ) → IsSFileName n → w n ≡ false
+  pub p : (n : List ℕ) → IsSFileName n → w (p_file n) ≡ false
+  pub z : (n : List ℕ) → IsSFileName n → w (z_file n) ≡ false
   pub intent : w intent_file ≡ false
 
--- The moments of steps. The last number is at least that of each step that is acknowledged, and but at a disk fault the names that
+-- The crash points of steps. The last number is at least that of each step that is acknowledged, and but at a disk fault the names that
 -- were safe are safe again, after so many steps.
-pub record RunMoments (x : Action) (w : List ℕ → Bool) (r : Result ℕ Fault) (folder : Folder) (ts : List NamedStep) (a b : Scene) (m : Model) (past : List Model) : Type 0 where
-  pub list : ListMoments w r folder ts a b m past
+pub record RunCrashPoints (x : Action) (w : List ℕ → Bool) (r : Result ℕ Fault) (folder : Folder) (ts : List NamedStep) (a b : Scene) (m : Model) (past : List Model) : Type 0 where
+  pub list : ListCrashPoints w r folder ts a b m past
   pub acknowledged : (k : ℕ) → k < length ts → IsAcknowledged r ts k (shown a) (shown b) → suc k ≤ list.number
   pub safe : r ≢ Err DiskFault → StaySafe x (view_in folder) (view_at folder ts list.number)
   -- the same of every s-file's name

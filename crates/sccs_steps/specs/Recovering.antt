@@ -4,7 +4,7 @@ use Rattle.sccs_base.specs.Name.{is_sfile_name}
 use Rattle.sccs_disk.specs.Files.{Folder, view_in}
 use Rattle.sccs_disk.specs.Told.{Told, seen}
 use Rattle.sccs_name_files.specs.StepFiles.{Shows}
-use Rattle.sccs_crash_points.specs.Moments.{KeepsCalm, LeavesCalm, LeavesFirm, RecoversOn}
+use Rattle.sccs_crash_points.specs.CrashPoints.{KeepsCalm, LeavesCalm, LeavesFirm, RecoversOn}
 use Rattle.sccs_sid.specs.declared.refusals.StepFault.{StepFault}
 use Rattle.sccs_sid.specs.declared.refusals.StepFault.TheVariants as step
 use Rattle.sccs_steps.specs.Actions.{Action, AreClear}

@@ -8,7 +8,7 @@ use Rattle.sccs_crash_points.specs.Unlocked.{BeginsUnlockedBut}
 use Rattle.sccs_steps.specs.Actions.{Action, AreClear, IsHeard, IsLone, hears, input_steps, kind_hears, kind_of, kind_steps, step_at, steps_at, steps_of}
 use Rattle.sccs_steps.specs.Calls.{Scene, shown}
 use Rattle.sccs_steps.specs.Causes.{Ignores, RunCauses}
-use Rattle.sccs_steps.specs.ListStops.{AreSafe, MayBegin, RunMoments, Spares}
+use Rattle.sccs_steps.specs.ListStops.{AreSafe, MayBegin, RunCrashPoints, Spares}
 use Rattle.sccs_steps.specs.Recovering.{RecoversBy}
 use Rattle.sccs_steps.specs.Settings.{Setting}
 use Rattle.sccs_steps.specs.Speaking.{SpeakAll, SpeakNames, SpeaksKind, SpeaksOne}
@@ -32,7 +32,7 @@ MakesBy x steps given r a b = (w : List ℕ → Bool) (folder : Folder) (i : Lis
 abbrev pub StopsBy : Action → Steps → (List ℕ → Type 0) → Result ℕ Fault → Scene → Scene → Type 0
 StopsBy x steps given r a b = (w : List ℕ → Bool) (folder : Folder) (i : List ℕ) (m : Model) (past : List Model)
     → Spares w → AreClear x w (steps folder i) → Shows w (seen a.told) (view_in folder) → given i
-    → a.told ≡ Tells m past → MayBegin folder m → AreSafe x (steps folder i) (view_in folder) → RunMoments x w r folder (steps folder i) a b m past
+    → a.told ≡ Tells m past → MayBegin folder m → AreSafe x (steps folder i) (view_in folder) → RunCrashPoints x w r folder (steps folder i) a b m past
 
 -- before each change of an s-file or p-file its z-file wasn't there at a moment of the call, but of the names of steps that don't lock them
 abbrev pub UnlockedBy : Action → Steps → (List ℕ → Type 0) → Told → Told → Type 0

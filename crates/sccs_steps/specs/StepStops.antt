@@ -10,7 +10,7 @@ use Rattle.sccs_disk.specs.Told.{Told, Tells}
 use Rattle.sccs_name_files.specs.StepFiles.{look, moved}
 use Rattle.sccs_name_files.specs.Touches.{Each}
 use Rattle.sccs_crash_points.specs.Calm.{IsCalm}
-use Rattle.sccs_crash_points.specs.Moments.{EndsAfter, EndsBefore, EndsWithin}
+use Rattle.sccs_crash_points.specs.CrashPoints.{EndsAfter, EndsBefore, EndsWithin}
 use Rattle.sccs_crash_points.specs.Recovery.{IsSettledPair, IsSound, RecoversAs, is_kept, pair_of, recover}
 use Rattle.sccs_steps.specs.StepEffects.{Outcome, effect_of}
 use Rattle.sccs_steps.specs.Actions.{Action, IsHeard}
@@ -70,10 +70,10 @@ MeetsAtAs code x r n o v m past a b =
 abbrev pub MeetsAt : Action → Result (Unit {0}) StepFault → List ℕ → Outcome → View → Model → List Model → Scene → Scene → Type 0
 MeetsAt x r n o v m past a b = MeetsAtAs (λ (done : Unit {0}). 0) x r n o v m past a b
 
--- the moments of a step that begins on a calm disk, where its name is safe
-abbrev pub StepMomentsAs : {X : Type 0} → (X → ℕ) → Action → Result X StepFault → List ℕ → Option (List ℕ) → Scene → Scene → Type 0
-StepMomentsAs code x r n left a b = (m : Model) (past : List Model) (i : List ℕ) → a.told ≡ Tells m past → IsHeard x.takes left i → IsCalm m → IsSafeFor x n (view_of m)
+-- the crash points of a step that begins on a calm disk, where its name is safe
+abbrev pub StepCrashPointsAs : {X : Type 0} → (X → ℕ) → Action → Result X StepFault → List ℕ → Option (List ℕ) → Scene → Scene → Type 0
+StepCrashPointsAs code x r n left a b = (m : Model) (past : List Model) (i : List ℕ) → a.told ≡ Tells m past → IsHeard x.takes left i → IsCalm m → IsSafeFor x n (view_of m)
     → MeetsAtAs code x r n (x.step n i (map (view_of m) (x.named n)) (look (view_of m) n)) (view_of m) m past a b
 
-abbrev pub StepMoments : Action → Result (Unit {0}) StepFault → List ℕ → Option (List ℕ) → Scene → Scene → Type 0
-StepMoments x r n left a b = StepMomentsAs (λ (done : Unit {0}). 0) x r n left a b
+abbrev pub StepCrashPoints : Action → Result (Unit {0}) StepFault → List ℕ → Option (List ℕ) → Scene → Scene → Type 0
+StepCrashPoints x r n left a b = StepCrashPointsAs (λ (done : Unit {0}). 0) x r n left a b

@@ -5,7 +5,7 @@ ghost use Rattle.sccs_steps.specs.Actions.{Action, KeepsFiles, SpeaksBy, SpeaksB
 ghost use Rattle.sccs_steps.specs.Calls.{scene};
 ghost use Rattle.sccs_steps.specs.Causes.{Ignores, StepCauses, counts};
 ghost use Rattle.sccs_steps.specs.Recovering.{StepRecovers};
-ghost use Rattle.sccs_steps.specs.StepStops.{StepMoments, StepMomentsAs};
+ghost use Rattle.sccs_steps.specs.StepStops.{StepCrashPoints, StepCrashPointsAs};
 ghost use Rattle.sccs_steps.specs.Unlocked.{StepOthers, StepUnlocked};
 
 use crate::statuses::StatusRule;
@@ -50,7 +50,7 @@ pub trait Utility {
         ensures step { Stepped (action self.now) result name.now (I.left input.old)
             (scene (D.told disk.old) (O.given out.old) (E.given err.old))
             (scene (D.told disk.new) (O.given out.new) (E.given err.new)) }
-        ensures moments { StepMoments (action self.now) result name.now (I.left input.old)
+        ensures crash_points { StepCrashPoints (action self.now) result name.now (I.left input.old)
             (scene (D.told disk.old) (O.given out.old) (E.given err.old))
             (scene (D.told disk.new) (O.given out.new) (E.given err.new)) }
         ensures unlocked { StepUnlocked (action self.now) name.now (D.told disk.old) (D.told disk.new) }
@@ -105,7 +105,7 @@ pub trait UtilityWithStatus {
         ensures step { SteppedAs (λ (status : ℕ). status) (action self.now) result name.now (I.left input.old)
             (scene (D.told disk.old) (O.given out.old) (E.given err.old))
             (scene (D.told disk.new) (O.given out.new) (E.given err.new)) }
-        ensures moments { StepMomentsAs (λ (status : ℕ). status) (action self.now) result name.now (I.left input.old)
+        ensures crash_points { StepCrashPointsAs (λ (status : ℕ). status) (action self.now) result name.now (I.left input.old)
             (scene (D.told disk.old) (O.given out.old) (E.given err.old))
             (scene (D.told disk.new) (O.given out.new) (E.given err.new)) }
         ensures unlocked { StepUnlocked (action self.now) name.now (D.told disk.old) (D.told disk.new) }

@@ -1,7 +1,7 @@
 -- A commit puts the chosen files in their places, and leaves all others.
 use Rattle.std.proofs.Common.{◌≡◌, ◌⊎◌, ℕ, zero, suc, Bool, true, false, cond, List, drop, Option, None, inl, inr, refl, sym, ap, subst, ◌∙◌, ⊎_elim}
 use Rattle.std.specs.Str.{bytes_eq}
-use Rattle.sccs_base.specs.Name.{IsSfile, p_file, q_file, x_file, y_file, z_file}
+use Rattle.sccs_base.specs.Name.{IsSFileName, p_file, q_file, x_file, y_file, z_file}
 use Rattle.sccs_disk.specs.Files.{Content, View, put}
 use Rattle.sccs_disk.proofs.Puts.{name_cases, put_back, put_other, put_same, same_name}
 use Rattle.sccs_name_files.specs.StepFiles.{is_working, l_file, placed}
@@ -30,7 +30,7 @@ third_at n c v k = cond (bytes_eq (drop 2 n) k) (chosen c.g (v (y_file n)) (v (d
 pub first_is : (n : List ℕ) (c : Plan) (v : View) (k : List ℕ) → is_working n k ≡ false → s_swapped n c v k ≡ first_at n c v k
 first_is n c v k h = swapped_at c.s (x_file n) n v k (no_x n k h)
 
-pub second_is : (n : List ℕ) (c : Plan) (v : View) (k : List ℕ) → IsSfile n → is_working n k ≡ false → p_swapped n c (s_swapped n c v) k ≡ second_at n c v k
+pub second_is : (n : List ℕ) (c : Plan) (v : View) (k : List ℕ) → IsSFileName n → is_working n k ≡ false → p_swapped n c (s_swapped n c v) k ≡ second_at n c v k
 second_is n c v k sfile h =
     let q : s_swapped n c v (q_file n) ≡ v (q_file n) = swapped_other c.s (x_file n) n v (q_file n) refl (to_s 113 n sfile refl) in
     let p : s_swapped n c v (p_file n) ≡ v (p_file n) = swapped_other c.s (x_file n) n v (p_file n) refl (to_s 112 n sfile refl) in
@@ -42,7 +42,7 @@ second_is n c v k sfile h =
 two_other : (n : List ℕ) (c : Plan) (v : View) (k : List ℕ) → bytes_eq (x_file n) k ≡ false → bytes_eq n k ≡ false → bytes_eq (q_file n) k ≡ false → bytes_eq (p_file n) k ≡ false → p_swapped n c (s_swapped n c v) k ≡ v k
 two_other n c v k x s q p = swapped_other c.p (q_file n) (p_file n) (s_swapped n c v) k q p ∙ swapped_other c.s (x_file n) n v k x s
 
-third_is : (n : List ℕ) (c : Plan) (v : View) (k : List ℕ) → IsSfile n → is_working n k ≡ false → g_swapped n c (p_swapped n c (s_swapped n c v)) k ≡ third_at n c v k
+third_is : (n : List ℕ) (c : Plan) (v : View) (k : List ℕ) → IsSFileName n → is_working n k ≡ false → g_swapped n c (p_swapped n c (s_swapped n c v)) k ≡ third_at n c v k
 third_is n c v k sfile h =
     let u : View = p_swapped n c (s_swapped n c v) in
     let y : u (y_file n) ≡ v (y_file n) = two_other n c v (y_file n) refl (to_s 121 n sfile refl) refl refl in
@@ -66,7 +66,7 @@ record AtMostOne (s p g z : Bool) : Type 0 where
   gs : g ≡ true → s ≡ false
   ps : p ≡ true → s ≡ false
 
-at_most_one : (n k : List ℕ) → IsSfile n → AtMostOne (bytes_eq n k) (bytes_eq (p_file n) k) (bytes_eq (drop 2 n) k) (bytes_eq (z_file n) k)
+at_most_one : (n k : List ℕ) → IsSFileName n → AtMostOne (bytes_eq n k) (bytes_eq (p_file n) k) (bytes_eq (drop 2 n) k) (bytes_eq (z_file n) k)
 at_most_one n k sfile = record {
   zg = only_one (z_file n) (drop 2 n) k (to_g 122 n sfile);
   zp = only_one (z_file n) (p_file n) k refl;
@@ -99,7 +99,7 @@ pub l_taken : (n : List ℕ) (u v : View) (k : List ℕ) → (bytes_eq (l_file n
 l_taken n u v k same = ⊎_elim (λ e. subst (λ l. u l ≡ with_l n u v l) e (sym (put_same v (l_file n) (u (l_file n))))) (λ apart. same apart ∙ sym (put_other v (l_file n) k (u (l_file n)) apart)) (name_cases (l_file n) k)
 
 -- what the files of the name are after a commit on u, where v is the view before all
-pub committed_at : (n : List ℕ) (c : Plan) (u v : View) (k : List ℕ) → IsSfile n → is_working n k ≡ false → (bytes_eq (l_file n) k ≡ false → bytes_eq (z_file n) k ≡ false → u k ≡ v k) → committed n c u k ≡ placed v n (files_after n c u) k
+pub committed_at : (n : List ℕ) (c : Plan) (u v : View) (k : List ℕ) → IsSFileName n → is_working n k ≡ false → (bytes_eq (l_file n) k ≡ false → bytes_eq (z_file n) k ≡ false → u k ≡ v k) → committed n c u k ≡ placed v n (files_after n c u) k
 committed_at n c u v k sfile h same =
     ap (λ (o : Option Content). cond (bytes_eq (z_file n) k) None o) (third_is n c u k sfile h)
     ∙ reordered (bytes_eq n k) (bytes_eq (p_file n) k) (bytes_eq (drop 2 n) k) (bytes_eq (z_file n) k) (chosen c.s (u (x_file n)) (u n)) (chosen c.p (u (q_file n)) (u (p_file n)))
@@ -143,15 +143,15 @@ g_of n c u = chosen c.g (u (y_file n)) (u (drop 2 n))
 abbrev placed_of : List ℕ → Plan → View → View → List ℕ → Option Content
 placed_of n c u v k = cond (bytes_eq n k) (s_of n c u) (cond (bytes_eq (p_file n) k) (p_of n c u) (cond (bytes_eq (drop 2 n) k) (g_of n c u) (v k)))
 
-no_z_file : (n : List ℕ) (k : List ℕ) → IsSfile n → bytes_eq (z_file n) k ≡ false → AtMostOne (bytes_eq n k) (bytes_eq (p_file n) k) (bytes_eq (drop 2 n) k) false
+no_z_file : (n : List ℕ) (k : List ℕ) → IsSFileName n → bytes_eq (z_file n) k ≡ false → AtMostOne (bytes_eq n k) (bytes_eq (p_file n) k) (bytes_eq (drop 2 n) k) false
 no_z_file n k sfile other = subst (λ z. AtMostOne (bytes_eq n k) (bytes_eq (p_file n) k) (bytes_eq (drop 2 n) k) z) other (at_most_one n k sfile)
 
-three_made : (n : List ℕ) (c : Plan) (u v : View) (k : List ℕ) → IsSfile n → is_working n k ≡ false → bytes_eq (z_file n) k ≡ false → u k ≡ v k
+three_made : (n : List ℕ) (c : Plan) (u v : View) (k : List ℕ) → IsSFileName n → is_working n k ≡ false → bytes_eq (z_file n) k ≡ false → u k ≡ v k
     → Either (g_swapped n c (p_swapped n c (s_swapped n c u)) k) (v k) (placed_of n c u v k)
 three_made n c u v k sfile h other same =
     as_it_is _ _ _ _ (third_is n c u k sfile h) (third_part (bytes_eq n k) (bytes_eq (p_file n) k) (bytes_eq (drop 2 n) k) (s_of n c u) (p_of n c u) (g_of n c u) (u k) (v k) (no_z_file n k sfile other) same)
 
-parts : (n : List ℕ) (c : Plan) (u v : View) (k : List ℕ) (i : ℕ) → IsSfile n → is_working n k ≡ false → bytes_eq (z_file n) k ≡ false → u k ≡ v k
+parts : (n : List ℕ) (c : Plan) (u v : View) (k : List ℕ) (i : ℕ) → IsSFileName n → is_working n k ≡ false → bytes_eq (z_file n) k ≡ false → u k ≡ v k
     → Either (part_of n c i u k) (v k) (placed_of n c u v k)
 parts n c u v k zero sfile h other same = inl same
 parts n c u v k (suc zero) sfile h other same =
@@ -172,6 +172,6 @@ ends_as x a b d is (inl e) = inl e
 ends_as x a b d is (inr e) = inr (e ∙ is)
 
 -- each file but the z-file is as it was, or as the commit makes it
-pub part_at : (n : List ℕ) (c : Plan) (u v : View) (k : List ℕ) (i : ℕ) → IsSfile n → is_working n k ≡ false → bytes_eq (z_file n) k ≡ false → u k ≡ v k
+pub part_at : (n : List ℕ) (c : Plan) (u v : View) (k : List ℕ) (i : ℕ) → IsSFileName n → is_working n k ≡ false → bytes_eq (z_file n) k ≡ false → u k ≡ v k
     → (part_of n c i u k ≡ v k) ⊎ (part_of n c i u k ≡ placed v n (files_after n c u) k)
 part_at n c u v k i sfile h other same = ends_as _ _ _ _ (placed_is n c u v k other same) (parts n c u v k i sfile h other same)

@@ -1,7 +1,7 @@
 -- A lock that fails on a name that was locked already loses nothing.
 use Rattle.std.proofs.Common.{◌≡◌, ◌⊎◌, ℕ, true, false, List, [], ◌∷◌, Option, None, Some, is_some, inl, inr, refl, sym, ap, subst, ◌∙◌, ⊎_elim, arith}
 use Rattle.std.specs.Str.{bytes_eq}
-use Rattle.sccs_base.specs.Name.{IsSfile, p_file, q_file, x_file, z_file}
+use Rattle.sccs_base.specs.Name.{IsSFileName, p_file, q_file, x_file, z_file}
 use Rattle.sccs_disk.specs.Calls.{Half}
 use Rattle.sccs_disk.specs.Effects.{created, creating, empty_file}
 use Rattle.sccs_disk.specs.Files.{Model, View, IsSane, view_of}
@@ -14,7 +14,7 @@ use Rattle.sccs_name_files.proofs.Touched.{touches_created}
 use Rattle.sccs_intents.specs.Intents.{intent_file}
 use Rattle.sccs_intents.specs.declared.intents.Fate.{Fate}
 use Rattle.sccs_crash_points.specs.Calm.{IsCalm, KeepsPairs}
-use Rattle.sccs_crash_points.specs.Moments.{EndsBefore}
+use Rattle.sccs_crash_points.specs.CrashPoints.{EndsBefore}
 use Rattle.sccs_crash_points.specs.Recovery.{fate_at, pair_of}
 use Rattle.sccs_crash_points.specs.Unlocked.{IsHeldIn, KeepsHeldIn, KeptHeld}
 use Rattle.sccs_crash_points.proofs.CalmDisks.{calm_kept, full_there}
@@ -24,7 +24,7 @@ use Rattle.sccs_crash_points.proofs.Untouched.{same_before}
 use Rattle.sccs_store.specs.Stops.{KeepsHeld}
 
 -- a view that differs from another in the z-file of a name alone, where that is there as before
-held_keeps : (n : List ℕ) (v u w : View) → IsSfile n → is_some (v (z_file n)) ≡ true → is_some (w (z_file n)) ≡ true → KeepsPairs v u → ((k : List ℕ) → bytes_eq (z_file n) k ≡ false → u k ≡ w k) → KeepsPairs v w
+held_keeps : (n : List ℕ) (v u w : View) → IsSFileName n → is_some (v (z_file n)) ≡ true → is_some (w (z_file n)) ≡ true → KeepsPairs v u → ((k : List ℕ) → bytes_eq (z_file n) k ≡ false → u k ≡ w k) → KeepsPairs v w
 held_keeps n v u w sfile there still keeps same = record {
   intent = intent;
   pairs = pairs;
@@ -34,7 +34,7 @@ held_keeps n v u w sfile there still keeps same = record {
     intent : w intent_file ≡ v intent_file
     intent = sym (same intent_file refl) ∙ keeps.intent
 
-    pairs : (k : List ℕ) → IsSfile k → pair_of w k ≡ pair_of v k
+    pairs : (k : List ℕ) → IsSFileName k → pair_of w k ≡ pair_of v k
     pairs k other = pair_same _ _ _ _ (sym (same k (from_sfile 122 n k other refl)) ∙ ap s_of (keeps.pairs k other)) (sym (same (p_file k) refl) ∙ ap p_of (keeps.pairs k other))
 
     own : (f : Option Fate) → fate_at v n ≡ f → recovered_at w n ≡ recovered_at v n
@@ -48,7 +48,7 @@ held_keeps n v u w sfile there still keeps same = record {
         (sym (same n (from_sfile 122 n n sfile refl))) (sym (same (p_file n) refl)) refl (λ named. sym (same (x_file n) refl)) (λ named. sym (same (q_file n) refl))
         ∙ (sym (recovered_under n u (Some fate) (fate_same n v u keeps.intent ∙ is)) ∙ recovers_to v u keeps.recovers n sfile))
 
-    elsewhere : (k : List ℕ) → IsSfile k → bytes_eq n k ≡ false → recovered_at w k ≡ recovered_at v k
+    elsewhere : (k : List ℕ) → IsSFileName k → bytes_eq n k ≡ false → recovered_at w k ≡ recovered_at v k
     elsewhere k other apart =
         recovered_alike k u w (record {
           fate = fate_same k u w (sym (same intent_file refl));
@@ -60,7 +60,7 @@ held_keeps n v u w sfile there still keeps same = record {
         })
         ∙ recovers_to v u keeps.recovers k other
 
-created_keeps : (n : List ℕ) (m : Model) → IsSfile n → IsSane m → IsCalm m → is_some (view_of m (z_file n)) ≡ true → is_some (view_of (created (z_file n) m) (z_file n)) ≡ true → Allows (KeepsPairs (view_of m)) (created (z_file n) m)
+created_keeps : (n : List ℕ) (m : Model) → IsSFileName n → IsSane m → IsCalm m → is_some (view_of m (z_file n)) ≡ true → is_some (view_of (created (z_file n) m) (z_file n)) ≡ true → Allows (KeepsPairs (view_of m)) (created (z_file n) m)
 created_keeps n m sfile sane calm there still = λ w image. ⊎_elim (λ old. calm w old) (λ full. whole w image full) (image_created (z_file n) m w sane image)
   where
     whole : (w : View) → Image (created (z_file n) m) w → Full (created (z_file n) m) w → KeepsPairs (view_of m) w
@@ -85,7 +85,7 @@ still_there z m m2 old new past past2 is now there half = by half.view
     by (inl same) = ap (λ (v : View). is_some (v z)) (view_is (view_of m2) (view_of m) (sym after ∙ (same ∙ before))) ∙ there
     by (inr (v, w, old_is, new_is, made)) = ap (λ (u : View). is_some (u z)) (view_is (view_of m2) w (sym after ∙ new_is) ∙ made) ∙ ap is_some (put_same v z (Some empty_file))
 
-pub held_ends : (n : List ℕ) (old new : Told) → IsSfile n → TellsSane old → Half (creating (z_file n)) old new → KeepsHeld n old new
+pub held_ends : (n : List ℕ) (old new : Told) → IsSFileName n → TellsSane old → Half (creating (z_file n)) old new → KeepsHeld n old new
 held_ends n old new sfile sane half = λ m past is calm there. by m past is calm there (half.model m past is)
   where
     made : (m m2 : Model) (past : List Model) → IsCalm m → new ≡ Tells m2 (m ∷ past) → Allows (KeepsPairs (view_of m)) m2 → EndsBefore (view_of m) m past new

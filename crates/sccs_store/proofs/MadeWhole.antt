@@ -1,7 +1,7 @@
 -- A g-file or an l-file that is made whole: the y-file is made and takes its place.
 use Rattle.std.proofs.Common.{◌≡◌, ℕ, false, List, Option, inl, inr, refl, sym, subst, ◌∙◌}
 use Rattle.std.specs.Str.{bytes_eq}
-use Rattle.sccs_base.specs.Name.{IsSfile, p_file, q_file, x_file, y_file, z_file}
+use Rattle.sccs_base.specs.Name.{IsSFileName, p_file, q_file, x_file, y_file, z_file}
 use Rattle.sccs_disk.specs.Files.{Content, Model, View, view_of}
 use Rattle.sccs_disk.specs.Images.{Allows, Image, IsFirm, IsOwn}
 use Rattle.sccs_disk.specs.Told.{Told, Tells}
@@ -10,7 +10,7 @@ use Rattle.sccs_name_files.proofs.Images.{view_image}
 use Rattle.sccs_name_files.proofs.Touched.{each_newest, newest_more}
 use Rattle.sccs_intents.specs.Intents.{intent_file}
 use Rattle.sccs_crash_points.specs.Calm.{IsCalm, KeepsPairs}
-use Rattle.sccs_crash_points.specs.Moments.{EndsBefore, Went}
+use Rattle.sccs_crash_points.specs.CrashPoints.{EndsBefore, Went}
 use Rattle.sccs_crash_points.specs.Recovery.{is_kept}
 use Rattle.sccs_crash_points.proofs.CalmDisks.{calm_kept}
 use Rattle.sccs_crash_points.proofs.FileNames.{no_y, working_s}
@@ -32,7 +32,7 @@ made n a b c d sane touches own written finished firm = record {
 }
 
 -- an image of a moment up to then
-touched_image : (n to : List ℕ) (new : Option Content) (m m2 : Model) → bytes_eq (y_file n) to ≡ false → IsSfile n → IsCalm m → Touches (bytes_eq (y_file n)) m m2 → Allows (IsPlacing to m new 0) m2
+touched_image : (n to : List ℕ) (new : Option Content) (m m2 : Model) → bytes_eq (y_file n) to ≡ false → IsSFileName n → IsCalm m → Touches (bytes_eq (y_file n)) m m2 → Allows (IsPlacing to m new 0) m2
 touched_image n to new m m2 other sfile calm touches w image =
     let x : (u : View) × Image m u × ((k : List ℕ) → bytes_eq (y_file n) k ≡ false → u k ≡ w k) = touches.images w image in
     record {
@@ -47,7 +47,7 @@ touched_image n to new m m2 other sfile calm touches w image =
       state = inr (refl, (x.0, x.1, sym (x.2 to other)));
     }
 
-abbrev touched_run : (n to : List ℕ) (new : Option Content) (m : Model) (past : List Model) (t : Told) → bytes_eq (y_file n) to ≡ false → IsSfile n → IsCalm m → Touching (bytes_eq (y_file n)) m past t → Went (IsPlacing to m new) m past 0 t
+abbrev touched_run : (n to : List ℕ) (new : Option Content) (m : Model) (past : List Model) (t : Told) → bytes_eq (y_file n) to ≡ false → IsSFileName n → IsCalm m → Touching (bytes_eq (y_file n)) m past t → Went (IsPlacing to m new) m past 0 t
 touched_run n to new m past t other sfile calm run = record {
   added = run.added;
   is = run.is;
@@ -59,7 +59,7 @@ touched_run n to new m past t other sfile calm run = record {
 ends_calm : (to : List ℕ) (new : Option Content) (m m2 : Model) (j : ℕ) → Allows (IsPlacing to m new j) m2 → IsCalm m2
 ends_calm to new m m2 j placing = calm_kept (view_of m) m2 (λ w image. (placing w image).keeps)
 
-pub ends_before : (n to : List ℕ) (new : Option Content) (a b : Told) (m : Model) (past : List Model) → bytes_eq (y_file n) to ≡ false → IsSfile n → a ≡ Tells m past → IsCalm m → TouchesOnly (bytes_eq (y_file n)) a b → EndsPlacing to new 0 m past b
+pub ends_before : (n to : List ℕ) (new : Option Content) (a b : Told) (m : Model) (past : List Model) → bytes_eq (y_file n) to ≡ false → IsSFileName n → a ≡ Tells m past → IsCalm m → TouchesOnly (bytes_eq (y_file n)) a b → EndsPlacing to new 0 m past b
 ends_before n to new a b m past other sfile is calm touches =
     let run : Touching (bytes_eq (y_file n)) m past b = touches m past is in (
       touched_run n to new m past b other sfile calm run,
@@ -106,11 +106,11 @@ from_made n to new a b d m past j is plain has told first call =
     (call (newest first.0.added m) (earlier first.0.added m past) first.0.is
     (record { calm = first.1; y_state = has.firm m past is (newest first.0.added m) (earlier first.0.added m past) first.0.is; plain = plain })))
 
-pub ends_within : (n to : List ℕ) (new : Option Content) (a b d : Told) (m : Model) (past : List Model) → bytes_eq (y_file n) to ≡ false → IsSfile n → a ≡ Tells m past → IsCalm m → is_kept to ≡ false → HasMade n a b
+pub ends_within : (n to : List ℕ) (new : Option Content) (a b d : Told) (m : Model) (past : List Model) → bytes_eq (y_file n) to ≡ false → IsSFileName n → a ≡ Tells m past → IsCalm m → is_kept to ≡ false → HasMade n a b
     → Leaves (λ m1. view_of m1 (y_file n) ≡ new) a b → PlaceStops n to b d → EndsPlacing to new 0 m past d
 ends_within n to new a b d m past other sfile is calm plain has told stops = from_made n to new a b d m past 0 is plain has told (ends_before n to new a b m past other sfile is calm has.touches) stops
 
-pub ends_after : (n to : List ℕ) (new : Option Content) (a b d : Told) (m : Model) (past : List Model) → bytes_eq (y_file n) to ≡ false → IsSfile n → a ≡ Tells m past → IsCalm m → is_kept to ≡ false → HasMade n a b
+pub ends_after : (n to : List ℕ) (new : Option Content) (a b d : Told) (m : Model) (past : List Model) → bytes_eq (y_file n) to ≡ false → IsSFileName n → a ≡ Tells m past → IsCalm m → is_kept to ≡ false → HasMade n a b
     → Leaves (λ m1. view_of m1 (y_file n) ≡ new) a b → PlaceEnds n to b d → EndsPlacing to new 1 m past d
 ends_after n to new a b d m past other sfile is calm plain has told ends = from_made n to new a b d m past 1 is plain has told (ends_before n to new a b m past other sfile is calm has.touches) ends
 

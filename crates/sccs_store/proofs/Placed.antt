@@ -1,7 +1,7 @@
 -- A y-file put in the place of another file: what a stop leaves.
 use Rattle.std.proofs.Common.{◌≡◌, ℕ, false, List, [], ◌∷◌, Option, None, is_some, inl, inr, refl, sym, ap, subst, ◌∙◌, ⊎_elim, arith}
 use Rattle.std.specs.Str.{bytes_eq}
-use Rattle.sccs_base.specs.Name.{IsSfile, p_file, q_file, x_file, y_file, z_file}
+use Rattle.sccs_base.specs.Name.{IsSFileName, p_file, q_file, x_file, y_file, z_file}
 use Rattle.sccs_disk.specs.Calls.{Done, Half}
 use Rattle.sccs_disk.specs.Effects.{pended, renamed, renaming, settled, syncing_names}
 use Rattle.sccs_disk.specs.Files.{Content, Model, Rename, View, put, view_of}
@@ -12,7 +12,7 @@ use Rattle.sccs_name_files.proofs.Images.{full_image, image_pended, image_settle
 use Rattle.sccs_name_files.proofs.Owned.{firm_stays}
 use Rattle.sccs_intents.specs.Intents.{intent_file}
 use Rattle.sccs_crash_points.specs.Calm.{IsCalm, KeepsPairs}
-use Rattle.sccs_crash_points.specs.Moments.{Guards}
+use Rattle.sccs_crash_points.specs.CrashPoints.{Guards}
 use Rattle.sccs_crash_points.specs.Recovery.{is_kept}
 use Rattle.sccs_crash_points.proofs.CalmDisks.{calm_kept}
 use Rattle.sccs_crash_points.proofs.FileNames.{kept_intent, kept_p, kept_q, kept_s, kept_x, kept_z, no_y, working_s}
@@ -25,11 +25,11 @@ use Rattle.sccs_store.specs.Placing.{CanPlace, EndsPlacing, HalfPlaces, IsPlacin
 -- the same intent, and the same files at which recovery looks
 pub record SameFiles (u w : View) : Type 0 where
   pub intent : w intent_file ≡ u intent_file
-  pub s : (k : List ℕ) → IsSfile k → w k ≡ u k
-  pub p : (k : List ℕ) → IsSfile k → w (p_file k) ≡ u (p_file k)
-  pub z : (k : List ℕ) → IsSfile k → w (z_file k) ≡ u (z_file k)
-  pub x : (k : List ℕ) → IsSfile k → w (x_file k) ≡ u (x_file k)
-  pub q : (k : List ℕ) → IsSfile k → w (q_file k) ≡ u (q_file k)
+  pub s : (k : List ℕ) → IsSFileName k → w k ≡ u k
+  pub p : (k : List ℕ) → IsSFileName k → w (p_file k) ≡ u (p_file k)
+  pub z : (k : List ℕ) → IsSFileName k → w (z_file k) ≡ u (z_file k)
+  pub x : (k : List ℕ) → IsSFileName k → w (x_file k) ≡ u (x_file k)
+  pub q : (k : List ℕ) → IsSFileName k → w (q_file k) ≡ u (q_file k)
 
 pub keeps_same : (v u w : View) → KeepsPairs v u → SameFiles u w → KeepsPairs v w
 keeps_same v u w keeps same = record {

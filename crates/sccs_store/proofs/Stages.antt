@@ -1,7 +1,7 @@
 -- How far a commit has come, and what a stop leaves of it.
 use Rattle.std.proofs.Common.{◌≡◌, ℕ, suc, List, [], ◌∷◌, drop, inl, inr, refl, sym, ap, subst, ◌∙◌, ⊎_elim, arith}
 use Rattle.std.specs.Prelude.{IfSome, IsSome}
-use Rattle.sccs_base.specs.Name.{IsSfile, p_file, q_file, x_file, y_file, z_file}
+use Rattle.sccs_base.specs.Name.{IsSFileName, p_file, q_file, x_file, y_file, z_file}
 use Rattle.sccs_disk.specs.Calls.{Done, Half, IsThere}
 use Rattle.sccs_disk.specs.Effects.{pended, renamed, settled, syncing_names}
 use Rattle.sccs_disk.specs.Files.{Model, Op, Rename, View, view_of}
@@ -11,7 +11,7 @@ use Rattle.sccs_disk.specs.Told.{Told, Tells, seen}
 use Rattle.sccs_name_files.specs.Touches.{earlier, newest}
 use Rattle.sccs_name_files.proofs.Images.{image_pended, image_settled, view_full}
 use Rattle.sccs_crash_points.specs.Calm.{HasFirm, IsCalm}
-use Rattle.sccs_crash_points.specs.Moments.{Guards, IsNew, RecoversWith, Went}
+use Rattle.sccs_crash_points.specs.CrashPoints.{Guards, IsNew, RecoversWith, Went}
 use Rattle.sccs_crash_points.specs.Recovery.{without_name}
 use Rattle.sccs_crash_points.proofs.CalmDisks.{calm_settled, looks_firm}
 use Rattle.sccs_crash_points.proofs.Full.{full_removed, full_renamed}
@@ -128,25 +128,25 @@ swaps_half n c m past i Remove from to t t2 stage further part half =
 model_there : (n : List ℕ) (m : Model) (past : List Model) (t : Told) → t ≡ Tells m past → IsThere (z_file n) t → IsSome (view_of m (z_file n))
 model_there n m past t is there = subst (λ (x : Told). IfSome (seen x) (λ (v : View). IsSome (v (z_file n)))) is there
 
-further_first : (n : List ℕ) (c : Plan) (m : Model) → IsSfile n → CanCommit n c m → IsSome (view_of m (z_file n)) → Further n c m 0
+further_first : (n : List ℕ) (c : Plan) (m : Model) → IsSFileName n → CanCommit n c m → IsSome (view_of m (z_file n)) → Further n c m 0
 further_first n c m sfile can there = record {
   new = λ u full. first_new n c m u (view_of m) sfile can full (view_full m) there;
   guards = guards_change n c m sfile can there 0 (omega arith);
 }
 
-further_second : (n : List ℕ) (c : Plan) (m : Model) → IsSfile n → CanCommit n c m → IsSome (view_of m (z_file n)) → Further n c m 1
+further_second : (n : List ℕ) (c : Plan) (m : Model) → IsSFileName n → CanCommit n c m → IsSome (view_of m (z_file n)) → Further n c m 1
 further_second n c m sfile can there = record {
   new = λ u full. inl (later_new n c m u (view_of m) sfile can full (view_full m) 0);
   guards = guards_change n c m sfile can there 1 (omega arith);
 }
 
-further_third : (n : List ℕ) (c : Plan) (m : Model) → IsSfile n → CanCommit n c m → IsSome (view_of m (z_file n)) → Further n c m 2
+further_third : (n : List ℕ) (c : Plan) (m : Model) → IsSFileName n → CanCommit n c m → IsSome (view_of m (z_file n)) → Further n c m 2
 further_third n c m sfile can there = record {
   new = λ u full. inl (later_new n c m u (view_of m) sfile can full (view_full m) 1);
   guards = guards_change n c m sfile can there 2 (omega arith);
 }
 
-further_last : (n : List ℕ) (c : Plan) (m : Model) → IsSfile n → CanCommit n c m → Further n c m 3
+further_last : (n : List ℕ) (c : Plan) (m : Model) → IsSFileName n → CanCommit n c m → Further n c m 3
 further_last n c m sfile can = record {
   new = λ u full. inl (later_new n c m u (view_of m) sfile can full (view_full m) 2);
   guards = guards_last n c m sfile can;
@@ -154,7 +154,7 @@ further_last n c m sfile can = record {
 
 -- ---- where a commit ends
 
-stage_firm : (n : List ℕ) (c : Plan) (m : Model) (past : List Model) (i : ℕ) (t : Told) → IsSfile n → CanCommit n c m → (stage : Stage n c m past i t) → HasFirm (newest stage.went.added m)
+stage_firm : (n : List ℕ) (c : Plan) (m : Model) (past : List Model) (i : ℕ) (t : Told) → IsSFileName n → CanCommit n c m → (stage : Stage n c m past i t) → HasFirm (newest stage.went.added m)
 stage_firm n c m past i t sfile can stage =
     looks_firm (newest stage.went.added m) (λ w full.
     let x : (u : View) × Full m u × (w ≡ part_of n c i u) = stage.full w full in
@@ -165,11 +165,11 @@ stage_firm n c m past i t sfile can stage =
 abbrev pub Stopped : List ℕ → Plan → Model → List Model → Told → Type 0
 Stopped n c m past t = (went : Went (IsNew m (committed n c (view_of m))) m past 0 t) × HasFirm (newest went.added m)
 
-stopped : (n : List ℕ) (c : Plan) (m : Model) (past : List Model) (t : Told) → IsSfile n → CanCommit n c m → AnyStage n c m past t → Stopped n c m past t
+stopped : (n : List ℕ) (c : Plan) (m : Model) (past : List Model) (t : Told) → IsSFileName n → CanCommit n c m → AnyStage n c m past t → Stopped n c m past t
 stopped n c m past t sfile can (i, stage) = (stage.went, stage_firm n c m past i t sfile can stage)
 
 -- a whole commit, its names not synced
-unsynced : (n : List ℕ) (c : Plan) (m : Model) (past : List Model) (t : Told) → IsSfile n → CanCommit n c m → (stage : Stage n c m past 4 t) → (w : View) → Full (newest stage.went.added m) w → RecoversWith (committed n c (view_of m)) w
+unsynced : (n : List ℕ) (c : Plan) (m : Model) (past : List Model) (t : Told) → IsSFileName n → CanCommit n c m → (stage : Stage n c m past 4 t) → (w : View) → Full (newest stage.went.added m) w → RecoversWith (committed n c (view_of m)) w
 unsynced n c m past t sfile can stage w full =
     let x : (u : View) × Full m u × (w ≡ part_of n c 4 u) = stage.full w full in
     subst (λ (v : View). RecoversWith (committed n c (view_of m)) v) (sym x.2) (later_new n c m x.0 (view_of m) sfile can x.1 (view_full m) 2)
@@ -177,7 +177,7 @@ unsynced n c m past t sfile can stage w full =
 firm_settled : (m : Model) → HasFirm m → HasFirm (settled m)
 firm_settled m firm = record { s_files = firm.s_files; p_files = firm.p_files; intent = firm.intent; x_files = firm.x_files; q_files = firm.q_files }
 
-synced_half : (n : List ℕ) (c : Plan) (m : Model) (past : List Model) (t t2 : Told) → IsSfile n → CanCommit n c m → Stage n c m past 4 t → Half syncing_names t t2 → Stopped n c m past t2
+synced_half : (n : List ℕ) (c : Plan) (m : Model) (past : List Model) (t t2 : Told) → IsSFileName n → CanCommit n c m → Stage n c m past 4 t → Half syncing_names t t2 → Stopped n c m past t2
 synced_half n c m past t t2 sfile can stage half =
     ⊎_elim (λ same. stopped n c m past t2 sfile can (4, again n c m past 4 t t2 stage same)) (λ made. settled_now made.0 made.1 made.2) (half.model _ _ stage.went.is)
   where
@@ -197,7 +197,7 @@ synced_half n c m past t t2 sfile can stage half =
 abbrev pub Ended : List ℕ → Plan → Model → List Model → Told → Type 0
 Ended n c m past t = (went : Went (IsNew m (committed n c (view_of m))) m past 1 t) × IsCalm (newest went.added m)
 
-ended : (n : List ℕ) (c : Plan) (m : Model) (past : List Model) (t t2 : Told) → IsSfile n → CanCommit n c m → Stage n c m past 4 t → Done syncing_names t t2 → Ended n c m past t2
+ended : (n : List ℕ) (c : Plan) (m : Model) (past : List Model) (t t2 : Told) → IsSFileName n → CanCommit n c m → Stage n c m past 4 t → Done syncing_names t t2 → Ended n c m past t2
 ended n c m past t t2 sfile can stage done = (
   record {
     added = settled (newest stage.went.added m) ∷ stage.went.added;
@@ -210,43 +210,43 @@ ended n c m past t t2 sfile can stage done = (
 
 -- ---- the exits of a commit
 
-first_stage : (n : List ℕ) (c : Plan) (m : Model) (past : List Model) (t0 t1 : Told) → IsSfile n → CanCommit n c m → IsThere (z_file n) t0 → t0 ≡ Tells m past → Swaps c.s (x_file n) n t0 t1 → Stage n c m past 1 t1
+first_stage : (n : List ℕ) (c : Plan) (m : Model) (past : List Model) (t0 t1 : Told) → IsSFileName n → CanCommit n c m → IsThere (z_file n) t0 → t0 ≡ Tells m past → Swaps c.s (x_file n) n t0 t1 → Stage n c m past 1 t1
 first_stage n c m past t0 t1 sfile can there is s =
     swaps_next n c m past 0 c.s (x_file n) n t0 t1 (begins n c m past t0 is) (further_first n c m sfile can (model_there n m past t0 is there)) (λ u. refl) s
 
-second_stage : (n : List ℕ) (c : Plan) (m : Model) (past : List Model) (t0 t1 t2 : Told) → IsSfile n → CanCommit n c m → IsThere (z_file n) t0 → t0 ≡ Tells m past
+second_stage : (n : List ℕ) (c : Plan) (m : Model) (past : List Model) (t0 t1 t2 : Told) → IsSFileName n → CanCommit n c m → IsThere (z_file n) t0 → t0 ≡ Tells m past
     → Swaps c.s (x_file n) n t0 t1 → Swaps c.p (q_file n) (p_file n) t1 t2 → Stage n c m past 2 t2
 second_stage n c m past t0 t1 t2 sfile can there is s p =
     swaps_next n c m past 1 c.p (q_file n) (p_file n) t1 t2 (first_stage n c m past t0 t1 sfile can there is s) (further_second n c m sfile can (model_there n m past t0 is there)) (λ u. refl) p
 
-third_stage : (n : List ℕ) (c : Plan) (m : Model) (past : List Model) (t0 t1 t2 t3 : Told) → IsSfile n → CanCommit n c m → IsThere (z_file n) t0 → t0 ≡ Tells m past
+third_stage : (n : List ℕ) (c : Plan) (m : Model) (past : List Model) (t0 t1 t2 t3 : Told) → IsSFileName n → CanCommit n c m → IsThere (z_file n) t0 → t0 ≡ Tells m past
     → Swaps c.s (x_file n) n t0 t1 → Swaps c.p (q_file n) (p_file n) t1 t2 → Swaps c.g (y_file n) (drop 2 n) t2 t3 → Stage n c m past 3 t3
 third_stage n c m past t0 t1 t2 t3 sfile can there is s p g =
     swaps_next n c m past 2 c.g (y_file n) (drop 2 n) t2 t3 (second_stage n c m past t0 t1 t2 sfile can there is s p) (further_third n c m sfile can (model_there n m past t0 is there)) (λ u. refl) g
 
-pub first_stop : (n : List ℕ) (c : Plan) (t0 t1 : Told) → IsSfile n → IsThere (z_file n) t0 → HalfSwaps c.s (x_file n) n t0 t1 → CommitStops n c t0 t1
+pub first_stop : (n : List ℕ) (c : Plan) (t0 t1 : Told) → IsSFileName n → IsThere (z_file n) t0 → HalfSwaps c.s (x_file n) n t0 t1 → CommitStops n c t0 t1
 first_stop n c t0 t1 sfile there s = λ m past is can.
     stopped n c m past t1 sfile can (swaps_half n c m past 0 c.s (x_file n) n t0 t1 (begins n c m past t0 is) (further_first n c m sfile can (model_there n m past t0 is there)) (λ u. refl) s)
 
-pub second_stop : (n : List ℕ) (c : Plan) (t0 t1 t2 : Told) → IsSfile n → IsThere (z_file n) t0 → Swaps c.s (x_file n) n t0 t1 → HalfSwaps c.p (q_file n) (p_file n) t1 t2 → CommitStops n c t0 t2
+pub second_stop : (n : List ℕ) (c : Plan) (t0 t1 t2 : Told) → IsSFileName n → IsThere (z_file n) t0 → Swaps c.s (x_file n) n t0 t1 → HalfSwaps c.p (q_file n) (p_file n) t1 t2 → CommitStops n c t0 t2
 second_stop n c t0 t1 t2 sfile there s p = λ m past is can.
     stopped n c m past t2 sfile can
     (swaps_half n c m past 1 c.p (q_file n) (p_file n) t1 t2 (first_stage n c m past t0 t1 sfile can there is s) (further_second n c m sfile can (model_there n m past t0 is there)) (λ u. refl) p)
 
-pub third_stop : (n : List ℕ) (c : Plan) (t0 t1 t2 t3 : Told) → IsSfile n → IsThere (z_file n) t0 → Swaps c.s (x_file n) n t0 t1 → Swaps c.p (q_file n) (p_file n) t1 t2
+pub third_stop : (n : List ℕ) (c : Plan) (t0 t1 t2 t3 : Told) → IsSFileName n → IsThere (z_file n) t0 → Swaps c.s (x_file n) n t0 t1 → Swaps c.p (q_file n) (p_file n) t1 t2
     → HalfSwaps c.g (y_file n) (drop 2 n) t2 t3 → CommitStops n c t0 t3
 third_stop n c t0 t1 t2 t3 sfile there s p g = λ m past is can.
     stopped n c m past t3 sfile can
     (swaps_half n c m past 2 c.g (y_file n) (drop 2 n) t2 t3 (second_stage n c m past t0 t1 t2 sfile can there is s p) (further_third n c m sfile can (model_there n m past t0 is there)) (λ u. refl) g)
 
-pub last_stop : (n : List ℕ) (c : Plan) (t0 t1 t2 t3 t4 : Told) → IsSfile n → IsThere (z_file n) t0 → Swaps c.s (x_file n) n t0 t1 → Swaps c.p (q_file n) (p_file n) t1 t2
+pub last_stop : (n : List ℕ) (c : Plan) (t0 t1 t2 t3 t4 : Told) → IsSFileName n → IsThere (z_file n) t0 → Swaps c.s (x_file n) n t0 t1 → Swaps c.p (q_file n) (p_file n) t1 t2
     → Swaps c.g (y_file n) (drop 2 n) t2 t3 → HalfUnlocks (z_file n) t3 t4 → CommitStops n c t0 t4
 last_stop n c t0 t1 t2 t3 t4 sfile there s p g (inl half) = λ m past is can.
     stopped n c m past t4 sfile can (swaps_half n c m past 3 Remove (z_file n) (z_file n) t3 t4 (third_stage n c m past t0 t1 t2 t3 sfile can there is s p g) (further_last n c m sfile can) (λ u. refl) half)
 last_stop n c t0 t1 t2 t3 t4 sfile there s p g (inr (mid, z, half)) = λ m past is can.
     synced_half n c m past mid t4 sfile can (swaps_next n c m past 3 Remove (z_file n) (z_file n) t3 mid (third_stage n c m past t0 t1 t2 t3 sfile can there is s p g) (further_last n c m sfile can) (λ u. refl) z) half
 
-pub commit_ends : (n : List ℕ) (c : Plan) (t0 t1 t2 t3 t4 : Told) → IsSfile n → IsThere (z_file n) t0 → Swaps c.s (x_file n) n t0 t1 → Swaps c.p (q_file n) (p_file n) t1 t2
+pub commit_ends : (n : List ℕ) (c : Plan) (t0 t1 t2 t3 t4 : Told) → IsSFileName n → IsThere (z_file n) t0 → Swaps c.s (x_file n) n t0 t1 → Swaps c.p (q_file n) (p_file n) t1 t2
     → Swaps c.g (y_file n) (drop 2 n) t2 t3 → Unlocks (z_file n) t3 t4 → CommitEnds n c t0 t4
 commit_ends n c t0 t1 t2 t3 t4 sfile there s p g (mid, z, synced) = λ m past is can.
     ended n c m past mid t4 sfile can (swaps_next n c m past 3 Remove (z_file n) (z_file n) t3 mid (third_stage n c m past t0 t1 t2 t3 sfile can there is s p g) (further_last n c m sfile can) (λ u. refl) z) synced

@@ -1,6 +1,6 @@
 -- A whole step: what is prepared under its lock, and the commit.
 use Rattle.std.proofs.Common.{◌≡◌, ℕ, List, None, inl, inr, refl, sym, subst, ◌∙◌, ⊎_elim}
-use Rattle.sccs_base.specs.Name.{IsSfile, q_file, x_file}
+use Rattle.sccs_base.specs.Name.{IsSFileName, q_file, x_file}
 use Rattle.sccs_disk.specs.Files.{Model, View, view_of}
 use Rattle.sccs_disk.specs.Images.{Allows, IsFirm}
 use Rattle.sccs_disk.specs.Told.{Told, Tells}
@@ -10,7 +10,7 @@ use Rattle.sccs_intents.specs.Intents.{intent_file}
 use Rattle.sccs_name_files.specs.Touches.{Leaves, earlier, newest}
 use Rattle.sccs_name_files.proofs.Touched.{each_newest, newest_more}
 use Rattle.sccs_crash_points.specs.Calm.{HasFirm, IsCalm, KeepsPairs}
-use Rattle.sccs_crash_points.specs.Moments.{EndsAfter, EndsBefore, EndsWithin, IsAt, IsNew, Stays, Went}
+use Rattle.sccs_crash_points.specs.CrashPoints.{EndsAfter, EndsBefore, EndsWithin, IsAt, IsNew, Stays, Went}
 use Rattle.sccs_crash_points.specs.Recovery.{IsSound, RecoversAs, fate_at}
 use Rattle.sccs_crash_points.specs.Unlocked.{KeepsOthers, KeptOthers, LeavesOthers}
 use Rattle.sccs_crash_points.proofs.CalmDisks.{calm_firm, firms_left}
@@ -26,7 +26,7 @@ use Rattle.sccs_store.specs.declared.new_files.NewFile.TheVariants.{Keep, Replac
 -- ---- up to the commit
 
 -- a step that has changed at most what it changes before its commit ends before it
-pub ends_before : (n : List ℕ) (a b : Told) (m : Model) (past : List Model) → IsSfile n → a ≡ Tells m past → IsCalm m → IsSound n (view_of m) → KeepsOthers (is_early n) a b → EndsBefore (view_of m) m past b
+pub ends_before : (n : List ℕ) (a b : Told) (m : Model) (past : List Model) → IsSFileName n → a ≡ Tells m past → IsCalm m → IsSound n (view_of m) → KeepsOthers (is_early n) a b → EndsBefore (view_of m) m past b
 ends_before n a b m past sfile is calm sound others =
     (stays_left n m past b sfile calm sound (others m past is), calm_stayed (view_of m) m past b (stays_left n m past b sfile calm sound (others m past is)))
 
@@ -38,7 +38,7 @@ firm_where Replace k a b m m1 past past1 is is1 firm = firm m past is m1 past1 i
 firm_where Remove k a b m m1 past past1 is is1 firm = tt
 
 -- what the commit needs
-can_commit : (n : List ℕ) (c : Plan) (a b : Told) (m : Model) (past : List Model) → IsSfile n → a ≡ Tells m past → IsCalm m → IsSound n (view_of m) → (run : KeptOthers (is_early n) m past b) → IsPlainPlan n c → HasPrepared n c a b → CanCommit n c (newest run.added m)
+can_commit : (n : List ℕ) (c : Plan) (a b : Told) (m : Model) (past : List Model) → IsSFileName n → a ≡ Tells m past → IsCalm m → IsSound n (view_of m) → (run : KeptOthers (is_early n) m past b) → IsPlainPlan n c → HasPrepared n c a b → CanCommit n c (newest run.added m)
 can_commit n c a b m past sfile is calm sound run plain prepared = record {
   firm = firms_left (is_early n) m (newest run.added m) (λ k other. early_s n k other) (λ k other. refl) refl
       (λ k other named. ⊎_elim (λ e. absurd (none_named (fate_at (view_of m) k) (subst (λ l. fate_at (view_of m) l ≡ None) e sound.unnamed) named)) (λ apart. left_x n k sfile other apart) (name_cases n k))
@@ -73,7 +73,7 @@ whole_run v w m past j b d w1 stays same went =
     (as_step v w (newest stays.added m) w1 (earlier stays.added m past) j d (numbered_now (λ i m2. Allows (KeepsPairs v) m2) 0 stays.added m 0 stays.numbers) same went)
 
 -- the commit was made
-pub ends_after : (n : List ℕ) (c : Plan) (a b d : Told) (m : Model) (past : List Model) (w : View) → IsSfile n → a ≡ Tells m past → IsCalm m → IsSound n (view_of m) → IsPlainPlan n c → HasPrepared n c a b
+pub ends_after : (n : List ℕ) (c : Plan) (a b d : Told) (m : Model) (past : List Model) (w : View) → IsSFileName n → a ≡ Tells m past → IsCalm m → IsSound n (view_of m) → IsPlainPlan n c → HasPrepared n c a b
     → ((m1 : Model) (past1 : List Model) → b ≡ Tells m1 past1 → RecoversAs w (committed n c (view_of m1))) → CommitEnds n c b d → EndsAfter (view_of m) w m past d
 ends_after n c a b d m past w sfile is calm sound plain prepared same commit =
     let stays : Stays (view_of m) m past b = stays_left n m past b sfile calm sound (prepared.others m past is) in
@@ -86,7 +86,7 @@ ends_after n c a b d m past w sfile is calm sound plain prepared same commit =
         (whole_run (view_of m) w m past 1 b d (committed n c (view_of (newest stays.added m))) stays (same (newest stays.added m) (earlier stays.added m past) stays.is) end.0, subst IsCalm (sym (newest_more end.0.added stays.added m)) end.1)
 
 -- the commit was stopped, or failed
-pub ends_within : (n : List ℕ) (c : Plan) (a b d : Told) (m : Model) (past : List Model) (w : View) → IsSfile n → a ≡ Tells m past → IsCalm m → IsSound n (view_of m) → IsPlainPlan n c → HasPrepared n c a b
+pub ends_within : (n : List ℕ) (c : Plan) (a b d : Told) (m : Model) (past : List Model) (w : View) → IsSFileName n → a ≡ Tells m past → IsCalm m → IsSound n (view_of m) → IsPlainPlan n c → HasPrepared n c a b
     → ((m1 : Model) (past1 : List Model) → b ≡ Tells m1 past1 → RecoversAs w (committed n c (view_of m1))) → CommitStops n c b d → EndsWithin (view_of m) w m past d
 ends_within n c a b d m past w sfile is calm sound plain prepared same commit =
     let stays : Stays (view_of m) m past b = stays_left n m past b sfile calm sound (prepared.others m past is) in

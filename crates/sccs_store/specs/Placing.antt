@@ -10,7 +10,7 @@ use Rattle.sccs_disk.specs.Images.{Image, IsFirm}
 use Rattle.sccs_disk.specs.Told.{Told, Tells}
 use Rattle.sccs_name_files.specs.Touches.{Leaves, TouchesOnly, newest}
 use Rattle.sccs_crash_points.specs.Calm.{IsCalm, KeepsPairs}
-use Rattle.sccs_crash_points.specs.Moments.{Went}
+use Rattle.sccs_crash_points.specs.CrashPoints.{Went}
 use Rattle.sccs_crash_points.specs.Recovery.{is_kept}
 
 -- ---- the calls

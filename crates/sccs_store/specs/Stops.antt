@@ -10,7 +10,7 @@ use Rattle.sccs_name_files.specs.StepFiles.{is_early}
 use Rattle.sccs_name_files.specs.Touches.{Leaves, newest}
 use Rattle.sccs_pfile.specs.Recovered.{recovered_pfile}
 use Rattle.sccs_crash_points.specs.Calm.{HasFirm, IsCalm}
-use Rattle.sccs_crash_points.specs.Moments.{EndsBefore, IsNew, Went}
+use Rattle.sccs_crash_points.specs.CrashPoints.{EndsBefore, IsNew, Went}
 use Rattle.sccs_crash_points.specs.Recovery.{fate_at, is_kept}
 use Rattle.sccs_crash_points.specs.Unlocked.{KeepsOthers}
 use Rattle.sccs_store.specs.Commits.{Plan, committed, files_after}

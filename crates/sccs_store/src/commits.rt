@@ -1,5 +1,5 @@
 ghost use Rattle.std.specs.Prelude.{◌≡◌, drop, OnErr, OnOk, IsErr};
-ghost use Rattle.sccs_base.specs.Name.{IsSfile, p_file, q_file, x_file, y_file, z_file};
+ghost use Rattle.sccs_base.specs.Name.{IsSFileName, p_file, q_file, x_file, y_file, z_file};
 ghost use Rattle.sccs_disk.specs.Calls.{IsThere};
 ghost use Rattle.sccs_disk.specs.Told.{seen};
 ghost use Rattle.sccs_crash_points.specs.Recovery.{without_name};
@@ -41,7 +41,7 @@ fn replaced(new_s: bool) -> NewFile
 
 // puts the x-file in the place of the s-file, or keeps that
 fn swap_s<D: Disk>(disk: &mut D, new_s: bool, name: &Name) -> Result<(), Failed>
-    requires sfile { IsSfile name.now }
+    requires sfile { IsSFileName name.now }
     requires needs { Needs (replaced new_s) (x_file name.now) name.now (D.told disk.old) }
     ensures ok { OnOk result (Becomes (swapped (replaced new_s) (x_file name.now) name.now) (seen (D.told disk.old)) (seen (D.told disk.new))) }
     ensures err { OnErr result (MayBecome (swapped (replaced new_s) (x_file name.now) name.now) (seen (D.told disk.old)) (seen (D.told disk.new))) }
@@ -54,7 +54,7 @@ fn swap_s<D: Disk>(disk: &mut D, new_s: bool, name: &Name) -> Result<(), Failed>
 
 // puts the q-file in the place of the p-file, or removes that
 fn swap_p<D: Disk>(disk: &mut D, new: NewFile, name: &Name) -> Result<(), Failed>
-    requires sfile { IsSfile name.now }
+    requires sfile { IsSFileName name.now }
     requires needs { Needs new (q_file name.now) (p_file name.now) (D.told disk.old) }
     ensures ok { OnOk result (Becomes (swapped new (q_file name.now) (p_file name.now)) (seen (D.told disk.old)) (seen (D.told disk.new))) }
     ensures err { OnErr result (MayBecome (swapped new (q_file name.now) (p_file name.now)) (seen (D.told disk.old)) (seen (D.told disk.new))) }
@@ -67,7 +67,7 @@ fn swap_p<D: Disk>(disk: &mut D, new: NewFile, name: &Name) -> Result<(), Failed
 
 // puts the y-file in the place of the g-file, or removes that
 fn swap_g<D: Disk>(disk: &mut D, new: NewFile, name: &Name) -> Result<(), Failed>
-    requires sfile { IsSfile name.now }
+    requires sfile { IsSFileName name.now }
     requires needs { Needs new (y_file name.now) (drop 2 name.now) (D.told disk.old) }
     ensures ok { OnOk result (Becomes (swapped new (y_file name.now) (drop 2 name.now)) (seen (D.told disk.old)) (seen (D.told disk.new))) }
     ensures err { OnErr result (MayBecome (swapped new (y_file name.now) (drop 2 name.now)) (seen (D.told disk.old)) (seen (D.told disk.new))) }
@@ -80,7 +80,7 @@ fn swap_g<D: Disk>(disk: &mut D, new: NewFile, name: &Name) -> Result<(), Failed
 
 // removes the z-file and syncs the names
 fn unlock<D: Disk>(disk: &mut D, name: &Name) -> Result<(), Failed>
-    requires sfile { IsSfile name.now }
+    requires sfile { IsSFileName name.now }
     requires there { IsThere (z_file name.now) (D.told disk.old) }
     ensures ok { OnOk result (Becomes (without_name (z_file name.now)) (seen (D.told disk.old)) (seen (D.told disk.new))) }
     ensures err { OnErr result (MayBecome (without_name (z_file name.now)) (seen (D.told disk.old)) (seen (D.told disk.new))) }
@@ -105,7 +105,7 @@ pub fn commit<D: Disk>(
     new_p: NewFile,
     new_g: NewFile,
 ) -> Result<(), Failed>
-    requires sfile { IsSfile name.now }
+    requires sfile { IsSFileName name.now }
     requires z { IsThere (z_file name.now) (D.told disk.old) }
     requires s { Needs (replaced new_s) (x_file name.now) name.now (D.told disk.old) }
     requires p { Needs new_p (q_file name.now) (p_file name.now) (D.told disk.old) }

@@ -1,6 +1,6 @@
 ghost use Rattle.std.specs.Prelude.{◌≡◌, ◌||◌, drop, IfOk, OnErr, OnOk, IsErr};
 ghost use Rattle.std.specs.Str.{bytes_eq};
-ghost use Rattle.sccs_base.specs.Name.{IsSfile, y_file};
+ghost use Rattle.sccs_base.specs.Name.{IsSFileName, y_file};
 ghost use Rattle.sccs_disk.specs.Calls.{IsThere};
 ghost use Rattle.sccs_disk.specs.Effects.{renamed};
 ghost use Rattle.sccs_disk.specs.Told.{seen};
@@ -16,7 +16,7 @@ use sccs_disk::Disk;
 
 /// Whether the g-file of an s-file's name is there and may be written.
 pub fn is_writable_g<D: Disk>(disk: &mut D, name: &Name) -> Result<bool, Failed>
-    requires { IsSfile name.now }
+    requires { IsSFileName name.now }
     ensures ok { IfOk result (MayWrite (seen (D.told disk.old)) (drop 2 name.now)) }
     ensures same { D.told disk.new ≡ D.told disk.old }
     ensures causes { DiskCauses (IsErr result) (D.faults disk.old) (D.faults disk.new) }
@@ -47,7 +47,7 @@ fn place<D: Disk>(disk: &mut D, from: &Name, to: &Name) -> Result<(), Failed>
 /// A stop leaves every s-file and p-file as it was, and the g-file as one could leave it before the call,
 /// or as the y-file was; after the call, only the latter.
 pub fn place_g<D: Disk>(disk: &mut D, name: &Name) -> Result<(), Failed>
-    requires sfile { IsSfile name.now }
+    requires sfile { IsSFileName name.now }
     requires there { IsThere (y_file name.now) (D.told disk.old) }
     ensures view { OnOk result (Becomes (renamed (y_file name.now) (drop 2 name.now)) (seen (D.told disk.old)) (seen (D.told disk.new))) }
     ensures halfway { OnErr result (MayBecome (renamed (y_file name.now) (drop 2 name.now)) (seen (D.told disk.old)) (seen (D.told disk.new))) }
@@ -61,7 +61,7 @@ pub fn place_g<D: Disk>(disk: &mut D, name: &Name) -> Result<(), Failed>
 
 /// Puts the y-file of an s-file's name in the place of its l-file and syncs the names, as `place_g` does.
 pub fn place_l<D: Disk>(disk: &mut D, name: &Name) -> Result<(), Failed>
-    requires sfile { IsSfile name.now }
+    requires sfile { IsSFileName name.now }
     requires there { IsThere (y_file name.now) (D.told disk.old) }
     ensures view { OnOk result (Becomes (renamed (y_file name.now) (l_file name.now)) (seen (D.told disk.old)) (seen (D.told disk.new))) }
     ensures halfway { OnErr result (MayBecome (renamed (y_file name.now) (l_file name.now)) (seen (D.told disk.old)) (seen (D.told disk.new))) }

@@ -1,6 +1,6 @@
 ghost use Rattle.std.specs.Prelude.{◌≡◌, None, IfSome, IsSome, IsErrOf, OnErr, OnOk};
 ghost use Rattle.std.specs.Str.{bytes_eq};
-ghost use Rattle.sccs_base.specs.Name.{IsSfile, z_file};
+ghost use Rattle.sccs_base.specs.Name.{IsSFileName, z_file};
 ghost use Rattle.sccs_disk.specs.Files.{View};
 ghost use Rattle.sccs_disk.specs.Told.{seen};
 ghost use Rattle.sccs_name_files.specs.StepFiles.{Moves};
@@ -24,7 +24,7 @@ pub enum LockFault {
 
 /// Makes the z-file of an s-file's name, empty. Locked comes exactly where it was there.
 pub fn lock<D: Disk>(disk: &mut D, name: &Name) -> Result<(), LockFault>
-    requires { IsSfile name.now }
+    requires { IsSFileName name.now }
     ensures view { OnOk result (Becomes (locked name.now) (seen (D.told disk.old)) (seen (D.told disk.new))) }
     ensures free { OnOk result (IfSome (seen (D.told disk.old)) (λ (v : View). v (z_file name.now) ≡ None)) }
     ensures locked { IsErrOf result LockFault.Locked

@@ -1,6 +1,6 @@
 ghost use Rattle.std.specs.Prelude.{All, Some, IsErrOf, OnErr, OnOk};
 ghost use Rattle.std.specs.Str.{bytes_eq};
-ghost use Rattle.sccs_base.specs.Name.{IsSfile, q_file};
+ghost use Rattle.sccs_base.specs.Name.{IsSFileName, q_file};
 ghost use Rattle.sccs_disk.specs.Calls.{IsThere};
 ghost use Rattle.sccs_disk.specs.Effects.{altered, appended};
 ghost use Rattle.sccs_disk.specs.Files.{put};
@@ -38,7 +38,7 @@ fn append_edits<D: Disk>(edits: &Edits, disk: &mut D, name: &Name) -> Result<(),
 
 // appends entries to the q-file, and syncs it
 fn append_q<D: Disk>(edits: &Edits, disk: &mut D, name: &Name) -> Result<(), DiskRefusal>
-    requires sfile { IsSfile name.now }
+    requires sfile { IsSFileName name.now }
     requires there { IsThere (q_file name.now) (D.told disk.old) }
     requires edits { All IsEdit edits.now }
     ensures view { OnOk result (Becomes (altered (q_file name.now) (appended (edits_text edits.now))) (seen (D.told disk.old)) (seen (D.told disk.new))) }
@@ -52,7 +52,7 @@ fn append_q<D: Disk>(edits: &Edits, disk: &mut D, name: &Name) -> Result<(), Dis
 /// Writes the q-file of an s-file's name, a p-file of these entries as they are written, and syncs it.
 /// System V, p-file. A p-file without entries is removed by a commit, and never prepared.
 pub fn prepare_p<D: Disk>(edits: &Edits, disk: &mut D, name: &Name) -> Result<(), DiskRefusal>
-    requires sfile { IsSfile name.now }
+    requires sfile { IsSFileName name.now }
     requires edits { All IsEdit edits.now }
     ensures view { OnOk result (Becomes (λ v. put v (q_file name.now) (Some (written_pfile edits.now))) (seen (D.told disk.old)) (seen (D.told disk.new))) }
     ensures view_err { OnErr result (Moves (bytes_eq (q_file name.now)) (λ v. v) (seen (D.told disk.old)) (seen (D.told disk.new))) }

@@ -1,6 +1,6 @@
 ghost use Rattle.std.specs.Prelude.{◌≤◌, Some, IsErrOf, OnErr, OnOk, IsErr};
 ghost use Rattle.std.specs.Str.{bytes_eq};
-ghost use Rattle.sccs_base.specs.Name.{IsSfile, sibling, x_file};
+ghost use Rattle.sccs_base.specs.Name.{IsSFileName, sibling, x_file};
 ghost use Rattle.sccs_disk.specs.Calls.{HasRange, IsThere};
 ghost use Rattle.sccs_disk.specs.Effects.{altered, empty_file, protected};
 ghost use Rattle.sccs_disk.specs.Files.{put};
@@ -64,7 +64,7 @@ pub fn renew<D: Disk>(disk: &mut D, name: &Name) -> Result<(), DiskRefusal>
 /// Makes a working file of an s-file's name empty: `x` the new s-file, `q` the new p-file, `y` the new
 /// g-file. One that an earlier stop left is removed.
 pub fn start<D: Disk>(disk: &mut D, name: &Name, letter: u8) -> Result<(), DiskRefusal>
-    requires sfile { IsSfile name.now }
+    requires sfile { IsSFileName name.now }
     requires low { 97 ≤ letter }
     requires high { letter ≤ 122 }
     ensures view { OnOk result (Becomes (λ v. put v (sibling letter name.now) (Some empty_file)) (seen (D.told disk.old)) (seen (D.told disk.new))) }
@@ -109,7 +109,7 @@ fn write_sum<D: Disk>(disk: &mut D, name: &Name, sum: u16) -> Result<(), DiskRef
 
 /// Puts the digits of the plain sum into the sum line of the x-file, protects the file and syncs it.
 pub fn finish_x<D: Disk>(disk: &mut D, name: &Name, sum: &Sum) -> Result<(), DiskRefusal>
-    requires sfile { IsSfile name.now }
+    requires sfile { IsSFileName name.now }
     requires there { HasRange (x_file name.now) 2 5 (D.told disk.old) }
     ensures view { OnOk result (Becomes (altered (x_file name.now) (with_sum_line sum.now.0)) (seen (D.told disk.old)) (seen (D.told disk.new))) }
     ensures only { OnlyWrites (x_file name.now) (D.told disk.old) (D.told disk.new) }
@@ -121,7 +121,7 @@ pub fn finish_x<D: Disk>(disk: &mut D, name: &Name, sum: &Sum) -> Result<(), Dis
 
 /// Removes one of the files of an s-file's name, by its first letter, where it is there.
 pub fn clear_sibling<D: Disk>(disk: &mut D, name: &Name, letter: u8) -> Result<(), Failed>
-    requires sfile { IsSfile name.now }
+    requires sfile { IsSFileName name.now }
     requires low { 97 ≤ letter }
     requires high { letter ≤ 122 }
     ensures view { OnOk result (Becomes (without_name (sibling letter name.now)) (seen (D.told disk.old)) (seen (D.told disk.new))) }
@@ -134,7 +134,7 @@ pub fn clear_sibling<D: Disk>(disk: &mut D, name: &Name, letter: u8) -> Result<(
 
 /// Removes the x-, q- and y-file of an s-file's name where they are there.
 pub fn clear_working<D: Disk>(disk: &mut D, name: &Name) -> Result<(), Failed>
-    requires { IsSfile name.now }
+    requires { IsSFileName name.now }
     ensures view { OnOk result (Becomes (cleared name.now) (seen (D.told disk.old)) (seen (D.told disk.new))) }
     ensures view_err { OnErr result (Moves (is_working name.now) (λ v. v) (seen (D.told disk.old)) (seen (D.told disk.new))) }
     ensures touches { TouchesOnly (is_working name.now) (D.told disk.old) (D.told disk.new) }
@@ -147,7 +147,7 @@ pub fn clear_working<D: Disk>(disk: &mut D, name: &Name) -> Result<(), Failed>
 
 /// Removes the x-, q-, y- and z-file of an s-file's name where they are there.
 pub fn abandon<D: Disk>(disk: &mut D, name: &Name) -> Result<(), Failed>
-    requires { IsSfile name.now }
+    requires { IsSFileName name.now }
     ensures view { OnOk result (Becomes (abandoned name.now) (seen (D.told disk.old)) (seen (D.told disk.new))) }
     ensures view_err { OnErr result (Moves (is_left name.now) (λ v. v) (seen (D.told disk.old)) (seen (D.told disk.new))) }
     ensures touches { TouchesOnly (is_left name.now) (D.told disk.old) (D.told disk.new) }

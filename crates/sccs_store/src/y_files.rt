@@ -1,5 +1,5 @@
 ghost use Rattle.std.specs.Prelude.{OnOk, IsErr};
-ghost use Rattle.sccs_base.specs.Name.{IsSfile, y_file};
+ghost use Rattle.sccs_base.specs.Name.{IsSFileName, y_file};
 ghost use Rattle.sccs_disk.specs.Calls.{IsThere};
 ghost use Rattle.sccs_disk.specs.Effects.{altered};
 ghost use Rattle.sccs_disk.specs.Images.{IsFirm};
@@ -32,7 +32,7 @@ fn finish<D: Disk>(disk: &mut D, name: &Name, mode: Mode) -> Result<(), Failed>
 /// Takes the mark writable from the y-file of an s-file's name, unless it is to keep it, and syncs the
 /// file.
 pub fn finish_y<D: Disk>(disk: &mut D, name: &Name, mode: Mode) -> Result<(), Failed>
-    requires sfile { IsSfile name.now }
+    requires sfile { IsSFileName name.now }
     requires there { IsThere (y_file name.now) (D.told disk.old) }
     ensures view { OnOk result (Becomes (altered (y_file name.now) (finished mode)) (seen (D.told disk.old)) (seen (D.told disk.new))) }
     ensures only { OnlyWrites (y_file name.now) (D.told disk.old) (D.told disk.new) }

@@ -1,7 +1,7 @@
 -- An l-file that is made whole, through the y-file.
 use Rattle.std.proofs.Common.{◌≡◌, ℕ, List, Option, None, Some, option_map, Result, inl, inr, refl, sym, ap, subst, ◌∙◌}
 use Rattle.std.specs.Str.{bytes_eq}
-use Rattle.sccs_base.specs.Name.{IsSfile, y_file}
+use Rattle.sccs_base.specs.Name.{IsSFileName, y_file}
 use Rattle.sccs_disk.specs.Effects.{renamed}
 use Rattle.sccs_disk.specs.Files.{View, put, view_of}
 use Rattle.sccs_disk.specs.Told.{Told, seen}
@@ -56,7 +56,7 @@ module _ (n text : List ℕ) where
       ap (λ (t : View). t (y_file n)) (view_is (view_of m2) (with_y (view_of m)) (sym (ap seen now) ∙ (is ∙ ap (λ (t : Told). option_map with_y (seen t)) told)))
       ∙ put_same (view_of m) (y_file n) (Some (summary_file text))
 
-  module _ (sfile : IsSfile n) where
+  module _ (sfile : IsSFileName n) where
     pub loses_touching : (a b : Told) → TouchesOnly (bytes_eq (y_file n)) a b → LosesNothing a b
     loses_touching a b touches = λ m past is calm. ends_pairs (l_file n) None 0 m past b (ends_before n (l_file n) None a b m past refl sfile is calm touches)
 

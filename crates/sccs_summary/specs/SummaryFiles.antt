@@ -8,7 +8,7 @@ use Rattle.sccs_disk.specs.Files.{Content, Model, View, put, view_of}
 use Rattle.sccs_disk.specs.Told.{Told, Tells}
 use Rattle.sccs_name_files.specs.StepFiles.{Moves, l_file}
 use Rattle.sccs_crash_points.specs.Calm.{IsCalm}
-use Rattle.sccs_crash_points.specs.Moments.{EndsBefore}
+use Rattle.sccs_crash_points.specs.CrashPoints.{EndsBefore}
 use Rattle.sccs_store.specs.Commits.{Becomes}
 use Rattle.sccs_sid.specs.declared.refusals.Refusal.{Refusal}
 use Rattle.sccs_sid.specs.declared.refusals.StepFault.{StepFault}

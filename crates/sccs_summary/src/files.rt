@@ -1,7 +1,7 @@
 ghost use Rattle.std.specs.Prelude.{IsErrOf, OnErr, OnOk, Some};
 ghost use Rattle.std.specs.List.{AllByRecursion};
 ghost use Rattle.std.specs.Str.{bytes_eq};
-ghost use Rattle.sccs_base.specs.Name.{IsSfile, y_file};
+ghost use Rattle.sccs_base.specs.Name.{IsSFileName, y_file};
 ghost use Rattle.sccs_disk.specs.Calls.{IsThere};
 ghost use Rattle.sccs_disk.specs.Causes.{DiskCauses};
 ghost use Rattle.sccs_disk.specs.Effects.{altered, appended};
@@ -98,7 +98,7 @@ fn append_y<D: Disk>(
     name: &Name,
     disk: &mut D,
 ) -> Result<(), DiskRefusal>
-    requires sfile { IsSfile name.now }
+    requires sfile { IsSFileName name.now }
     requires there { IsThere (y_file name.now) (D.told disk.old) }
     requires spelled { AllByRecursion HasSpelling records.now }
     ensures view { OnOk result (Becomes (altered (y_file name.now) (appended (summary_text (choice_of choices.entry) records.now))) (seen (D.told disk.old)) (seen (D.told disk.new))) }
@@ -116,7 +116,7 @@ fn make_y<D: Disk>(
     name: &Name,
     disk: &mut D,
 ) -> Result<(), DiskRefusal>
-    requires sfile { IsSfile name.now }
+    requires sfile { IsSFileName name.now }
     requires spelled { AllByRecursion HasSpelling records.now }
     ensures view { OnOk result (Becomes (λ v. put v (y_file name.now) (Some (summary_file (summary_text (choice_of choices.entry) records.now)))) (seen (D.told disk.old)) (seen (D.told disk.new))) }
     ensures moves { Moves (bytes_eq (y_file name.now)) (λ v. v) (seen (D.told disk.old)) (seen (D.told disk.new)) }
@@ -141,7 +141,7 @@ pub fn make_l<D: Disk>(
     name: &Name,
     disk: &mut D,
 ) -> Result<(), StepFault>
-    requires sfile { IsSfile name.now }
+    requires sfile { IsSFileName name.now }
     requires spelled { AllByRecursion HasSpelling records.now }
     ensures view { OnOk result (Becomes (l_made name.now (summary_text (choice_of choices.entry) records.now)) (seen (D.told disk.old)) (seen (D.told disk.new))) }
     ensures halfway { OnErr result (MakesPartly name.now (summary_text (choice_of choices.entry) records.now) (seen (D.told disk.old)) (seen (D.told disk.new))) }

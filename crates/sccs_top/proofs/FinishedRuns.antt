@@ -19,24 +19,24 @@ use Rattle.sccs_steps.specs.Settings.{Setting}
 use Rattle.sccs_steps.specs.StepLists.{NamedStep}
 use Rattle.sccs_steps.specs.declared.faults.Fault.{Fault}
 use Rattle.sccs_steps.specs.declared.faults.Fault.TheVariants as ends
-use Rattle.sccs_step_lists.specs.Courses.{AllClear, AllExempt, AllPlain, AllSafe, Courses, follow, portions_of, steps_along}
-use Rattle.sccs_step_lists.specs.Following.{AreKnown, BegunThen, CourseMoments, RunsCourse, RunsTo, SpeaksTo, WholeThen}
-use Rattle.sccs_step_lists.proofs.JoinedCourses.{course_cut, course_then}
+use Rattle.sccs_step_lists.specs.StepLists.{AllClear, AllExempt, AllPlain, AllSafe, StepLists, follow, portions_of, steps_along}
+use Rattle.sccs_step_lists.specs.Following.{AreKnown, BegunThen, StepListCrashPoints, RunsStepList, RunsTo, SpeaksTo, WholeThen}
+use Rattle.sccs_step_lists.proofs.JoinedStepLists.{step_list_cut, step_list_then}
 use Rattle.sccs_words.specs.declared.commands.Command.{Command}
 use Rattle.sccs_words.specs.declared.commands.Command.TheVariants as c
 use Rattle.sccs_words.specs.declared.commands.Operands.{Operands}
 use Rattle.sccs_recovery.specs.RecoverStep.{freed_by, recover_action}
 use Rattle.sccs_recovery.specs.AnyDisk.{RecoversAll}
 use Rattle.sccs_recovery.specs.FinishingEnds.{BegunFinishing, FinishEnds, WholeFinishing}
-use Rattle.sccs_recovery.specs.FinishStep.{finishing_course, freed_in, names_of}
+use Rattle.sccs_recovery.specs.FinishStep.{finishing_step_list, freed_in, names_of}
 use Rattle.sccs_recovery.proofs.AnyDisks.{both_recover, failed_recover}
-use Rattle.sccs_top.specs.Runs.{BegunFreed, BegunOperands, Caller, LeavesAlone, RunsAlone, RunsCommand, WholeFreed, WholeOperands, action_of, action_takes, freed_at, freeing, group_use, hushed, operands_course, operands_of, steps_by, val_words_of}
+use Rattle.sccs_top.specs.Runs.{BegunFreed, BegunOperands, Caller, LeavesAlone, RunsAlone, RunsCommand, WholeFreed, WholeOperands, action_of, action_takes, freed_at, freeing, group_use, hushed, operands_step_list, operands_of, steps_by, val_words_of}
 use Rattle.sccs_top.specs.declared.commands.GroupUse.TheVariants as uses
 use Rattle.sccs_top.proofs.RunLaws.{RunsWith, leaves_with, operands_runs, runs_with}
 
 -- a call that finishes a group
 abbrev Finishes : Result ℕ Fault → Setting → Setting → Type 0
-Finishes r s t = RunsCourse finishing_course (λ (i : List ℕ). Unit {0}) WholeFinishing BegunFinishing r s t
+Finishes r s t = RunsStepList finishing_step_list (λ (i : List ℕ). Unit {0}) WholeFinishing BegunFinishing r s t
 
 -- recover is the command that finishes a group
 abbrev pub Recovers : Command → Type 0
@@ -85,8 +85,8 @@ told_freed (Some u) w folder spares shows = shown_freed w u folder spares shows
 
 module _ (who : Caller) (command : Command) where
   -- with names that were freed, whatever the folder
-  abbrev finishes_freeing : (List ℕ → Bool) → Courses
-  finishes_freeing freed = follow finishing_course (λ code. operands_course (freeing who freed) command)
+  abbrev finishes_freeing : (List ℕ → Bool) → StepLists
+  finishes_freeing freed = follow finishing_step_list (λ code. operands_step_list (freeing who freed) command)
 
   abbrev Asks : Setting → List ℕ → Type 0
   Asks s i = IsInput (action_of who command) (operands_of command) s.left i
@@ -103,7 +103,7 @@ module _ (who : Caller) (command : Command) where
 
   -- where they are those of the folder that is shown
   freed_runs : (freed : List ℕ → Bool) (r : Result ℕ Fault) (s t : Setting) → ((w : List ℕ → Bool) (folder : Folder) → Spares w → Shows w (seen s.stage.told) (view_in folder) → freed ≡ freed_at folder)
-      → RunsCourse (finishes_freeing freed) (Asks s) (WholeWhen freed) (BegunWhen freed) r s t → RunsWith (Some uses.Finishes) who command r s t
+      → RunsStepList (finishes_freeing freed) (Asks s) (WholeWhen freed) (BegunWhen freed) r s t → RunsWith (Some uses.Finishes) who command r s t
   freed_runs freed r s t same runs = record {
     some = λ folder i given e. absurd cc;
     takes = λ folder i. ((λ changes n fits. ((sfile_name_decides n).0 fits).1), (action_takes (freeing who (freed_at folder)) command, tt));
@@ -113,7 +113,7 @@ module _ (who : Caller) (command : Command) where
         (λ clear_so known_so. runs.steps w folder i spares clear_so shows known_so given) clear known;
     stops = λ w folder i m past spares clear shows given told may safe.
         subst (λ (f : List ℕ → Bool). AllClear w (portions_of (finishes_freeing f) folder i) → AllSafe (view_in folder) (portions_of (finishes_freeing f) folder i)
-        → CourseMoments w r folder (steps_along (finishes_freeing f) folder i) s.stage t.stage m past) (same w folder spares shows)
+        → StepListCrashPoints w r folder (steps_along (finishes_freeing f) folder i) s.stage t.stage m past) (same w folder spares shows)
         (λ clear_so safe_so. runs.stops w folder i m past spares clear_so shows given told may safe_so) clear safe;
     unlocked = λ w folder i spares clear shows known given exempt plain free.
         subst (λ (f : List ℕ → Bool). AllClear w (portions_of (finishes_freeing f) folder i) → AreKnown s.stage.told folder (portions_of (finishes_freeing f) folder i)
@@ -148,9 +148,9 @@ module _ (who : Caller) (command : Command) where
       let behind : Caller = freeing who freed in
       runs_with (Some uses.Finishes) who command r s u is
       (freed_runs freed r s u (set_told set (seen s.stage.told) has)
-      (course_then finishing_course (λ one. operands_course behind command) (Asks s) (λ i. Unit {0}) (IsInput (action_of behind command) (operands_of command) s.left)
+      (step_list_then finishing_step_list (λ one. operands_step_list behind command) (Asks s) (λ i. Unit {0}) (IsInput (action_of behind command) (operands_of command) s.left)
       WholeFinishing BegunFinishing (λ one. WholeOperands behind command) (λ one. BegunOperands behind command) code r s t u (λ i given. tt) (λ i given. freed_input freed s.left i is given) (λ one folder i. (action_takes behind command, tt)) done
-      (subst (λ (l : Option (List ℕ)). RunsCourse (operands_course behind command) (IsInput (action_of behind command) (operands_of command) l) (WholeOperands behind command) (BegunOperands behind command) r t u) same
+      (subst (λ (l : Option (List ℕ)). RunsStepList (operands_step_list behind command) (IsInput (action_of behind command) (operands_of command) l) (WholeOperands behind command) (BegunOperands behind command) r t u) same
       (operands_runs behind command r t u (freed_command freed r t u is runs)))))
 
   -- it wasn't finished
@@ -160,7 +160,7 @@ module _ (who : Caller) (command : Command) where
       let behind : Caller = freeing who freed in
       runs_with (Some uses.Finishes) who command (Err fault) s t is
       (freed_runs freed (Err fault) s t (told_freed (seen s.stage.told))
-      (course_cut finishing_course (λ one. operands_course behind command) (Asks s) (λ i. Unit {0})
+      (step_list_cut finishing_step_list (λ one. operands_step_list behind command) (Asks s) (λ i. Unit {0})
       WholeFinishing BegunFinishing (λ one. WholeOperands behind command) (λ one. BegunOperands behind command) fault s t (λ i given. tt) (λ one folder i. (action_takes behind command, tt)) cut))
 
   -- the input is left

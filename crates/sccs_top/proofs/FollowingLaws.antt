@@ -1,7 +1,7 @@
 -- Where a run ended the next one may begin, and so where it was stopped and all names were recovered.
 use Rattle.std.proofs.Common.{◌≡◌, ◌≢◌, ℕ, ◌≤◌, Bool, true, false, List, [], ◌∷◌, length, take, Option, None, Some, is_some, Result, Err, refl, sym, ap, subst, ◌∙◌}
 use Rattle.std.specs.Prelude.{IsSome}
-use Rattle.sccs_base.specs.Name.{IsSfile, p_file, z_file}
+use Rattle.sccs_base.specs.Name.{IsSFileName, p_file, z_file}
 use Rattle.sccs_disk.specs.Files.{Content, Folder, Model, View, view_in, view_of}
 use Rattle.sccs_disk.specs.Images.{Allows}
 use Rattle.sccs_name_files.specs.StepFiles.{Shows}
@@ -11,12 +11,12 @@ use Rattle.sccs_name_files.proofs.Touched.{each_newest}
 use Rattle.sccs_intents.specs.Intents.{intent_file}
 use Rattle.sccs_group.specs.Finishing.{CanFinish}
 use Rattle.sccs_intents.specs.declared.intents.Fate.{Fate}
-use Rattle.sccs_crash_points.specs.Moments.{IsCalmUnnamed}
+use Rattle.sccs_crash_points.specs.CrashPoints.{IsCalmUnnamed}
 use Rattle.sccs_crash_points.specs.Recovery.{IsSettledPair, Pair, RecoversAs, fate_at}
 use Rattle.sccs_crash_points.proofs.Recovering.{LooksAlike, fate_same, recovered, recovered_alike, recovered_is, recovered_under, recovers_from}
 use Rattle.sccs_steps.specs.Calls.{Scene}
 use Rattle.sccs_steps.specs.ListStops.{IsAtNumber, KeepsSafeFrom, KeepsSafe, MayBegin, Spares, view_at}
-use Rattle.sccs_step_lists.specs.Following.{CourseMoments}
+use Rattle.sccs_step_lists.specs.Following.{StepListCrashPoints}
 use Rattle.sccs_steps.specs.StepLists.{NamedStep, folder_after}
 use Rattle.sccs_steps.specs.StepStops.{IsSafe}
 use Rattle.sccs_steps.specs.declared.faults.Fault.{Fault}
@@ -25,7 +25,7 @@ use Rattle.sccs_steps.proofs.SafeImages.{calm_safe, numbered_each}
 use Rattle.sccs_steps.proofs.Safety.{pair_paired, pair_settled}
 use Rattle.sccs_top.specs.Following.{AllRecovered, FollowsStop, MayFollow}
 
-pub may_follow : (w : List ℕ → Bool) (r : Result ℕ Fault) (folder : Folder) (ts : List NamedStep) (a b : Scene) (m : Model) (past : List Model) → (run : CourseMoments w r folder ts a b m past) → r ≢ Err ends.DiskFault
+pub may_follow : (w : List ℕ → Bool) (r : Result ℕ Fault) (folder : Folder) (ts : List NamedStep) (a b : Scene) (m : Model) (past : List Model) → (run : StepListCrashPoints w r folder ts a b m past) → r ≢ Err ends.DiskFault
     → MayFollow m folder (folder_after folder (take run.list.number ts)) b.told
 may_follow w r folder ts a b m past run other = record {
   model = newest run.list.went.added m;
@@ -45,10 +45,10 @@ begins w folder m spares alike calm = record { calm = calm.calm; recovers = reco
     fate : (n : List ℕ) → fate_at (view_of m) n ≡ fate_at (view_in folder) n
     fate n = fate_same n (view_in folder) (view_of m) (alike intent_file spares.intent)
 
-    none : (n : List ℕ) → IsSfile n → fate_at (view_in folder) n ≡ None
+    none : (n : List ℕ) → IsSFileName n → fate_at (view_in folder) n ≡ None
     none n sfile = sym (fate n) ∙ calm.unnamed n sfile
 
-    looks : (n : List ℕ) → IsSfile n → LooksAlike n (view_in folder) (view_of m)
+    looks : (n : List ℕ) → IsSFileName n → LooksAlike n (view_in folder) (view_of m)
     looks n sfile = record {
       fate = fate n;
       s = alike n (spares.s n sfile);
@@ -78,7 +78,7 @@ abbrev AtSome : Folder → List NamedStep → View → Type 0
 AtSome folder ts w = (k : ℕ) × (k ≤ length ts) × RecoversAs (view_at folder ts k) w
 
 -- a name that was safe, be it named by an intent or not
-recovered_safe : (w u : View) (n : List ℕ) → AllRecovered w u → IsSfile n → IsSafe n w → IsSafe n u
+recovered_safe : (w u : View) (n : List ℕ) → AllRecovered w u → IsSFileName n → IsSafe n w → IsSafe n u
 recovered_safe w u n all sfile safe = record {
   plain = safe.plain;
   sound = λ free. record { entries = subst (λ (x : Pair). IsSettledPair x) (sym (all.pairs n sfile)) safe.settled; unnamed = all.none n sfile };
@@ -97,8 +97,8 @@ held_by (Some c) fate free named = refl
 held_by None fate free named = subst (λ (f : Option Fate). IsSome f) (free refl) named
 
 -- at any end recovery may run next
-pub may_recover : (w : List ℕ → Bool) (r : Result ℕ Fault) (folder : Folder) (ts : List NamedStep) (a b : Scene) (m : Model) (past : List Model) → (run : CourseMoments w r folder ts a b m past)
-    → ((n : List ℕ) → IsSfile n → IsSome (fate_at (view_of (newest run.list.went.added m)) n) → Allows (IsSafe n) m) → CanFinish (newest run.list.went.added m)
+pub may_recover : (w : List ℕ → Bool) (r : Result ℕ Fault) (folder : Folder) (ts : List NamedStep) (a b : Scene) (m : Model) (past : List Model) → (run : StepListCrashPoints w r folder ts a b m past)
+    → ((n : List ℕ) → IsSFileName n → IsSome (fate_at (view_of (newest run.list.went.added m)) n) → Allows (IsSafe n) m) → CanFinish (newest run.list.went.added m)
 may_recover w r folder ts a b m past run were = record {
   firm = run.list.firm;
   held = λ n sfile named. held_by (view_of last (z_file n)) (fate_at (view_of last) n) (λ free. ((is_safe n sfile named).sound free).unnamed) named;
@@ -108,10 +108,10 @@ may_recover w r folder ts a b m past run were = record {
     last : Model
     last = newest run.list.went.added m
 
-    is_safe : (n : List ℕ) → IsSfile n → IsSome (fate_at (view_of last) n) → IsSafe n (view_of last)
+    is_safe : (n : List ℕ) → IsSFileName n → IsSome (fate_at (view_of last) n) → IsSafe n (view_of last)
     is_safe n sfile named = each_newest (Allows (KeepsSafeFrom m)) run.list.went.added m run.images (view_of last) (view_image last) n sfile (were n sfile named)
 
-pub stops_followed : (w : List ℕ → Bool) (r : Result ℕ Fault) (folder : Folder) (ts : List NamedStep) (a b : Scene) (m : Model) (past : List Model) → (run : CourseMoments w r folder ts a b m past)
+pub stops_followed : (w : List ℕ → Bool) (r : Result ℕ Fault) (folder : Folder) (ts : List NamedStep) (a b : Scene) (m : Model) (past : List Model) → (run : StepListCrashPoints w r folder ts a b m past)
     → Each (Allows (FollowsStop m folder ts)) run.list.went.added m
 stops_followed w r folder ts a b m past run =
     each_both (AtSome folder ts) (KeepsSafeFrom m) (FollowsStop m folder ts) run.list.went.added m (λ u at keeps. follows m folder ts u at keeps)

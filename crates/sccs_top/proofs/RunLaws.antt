@@ -22,29 +22,29 @@ use Rattle.sccs_steps.specs.Settings.{Setting}
 use Rattle.sccs_steps.specs.StepLists.{NamedStep, err_of, next_text}
 use Rattle.sccs_steps.proofs.Cleared.{cleared_same}
 use Rattle.sccs_steps.proofs.FirstMoved.{early_none}
-use Rattle.sccs_steps.proofs.MomentLists.{moments_never}
+use Rattle.sccs_steps.proofs.CrashPointLists.{crash_points_never}
 use Rattle.sccs_steps.proofs.SafeImages.{images_now}
 use Rattle.sccs_steps.proofs.Safety.{keeps_same}
 use Rattle.sccs_steps.specs.declared.faults.Fault.{Fault}
 use Rattle.sccs_steps.specs.declared.faults.Fault.TheVariants as ends
-use Rattle.sccs_step_lists.specs.Courses.{TakesSfiles, portion_of, said}
-use Rattle.sccs_step_lists.specs.Following.{CourseMoments, RunsCourse, RunsTo, SpeaksTo, WholeBy}
+use Rattle.sccs_step_lists.specs.StepLists.{TakesSfiles, portion_of, said}
+use Rattle.sccs_step_lists.specs.Following.{StepListCrashPoints, RunsStepList, RunsTo, SpeaksTo, WholeBy}
 use Rattle.sccs_step_lists.specs.OwnFiles.{IsGivenTo}
 use Rattle.sccs_step_lists.specs.Sayings.{IsSaid}
-use Rattle.sccs_step_lists.proofs.CourseMomentLaws.{course_moments}
-use Rattle.sccs_step_lists.proofs.OneAction.{steps_course}
+use Rattle.sccs_step_lists.proofs.StepListCrashPointLaws.{step_list_crash_points}
+use Rattle.sccs_step_lists.proofs.OneAction.{steps_step_list}
 use Rattle.sccs_step_lists.proofs.OwnFiles.{own_makes, own_stops, own_unlocked}
 use Rattle.sccs_step_lists.specs.QuietSettings.{with_input}
-use Rattle.sccs_step_lists.proofs.QuietCourses.{course_chosen, course_heard, course_with as with_own_input}
-use Rattle.sccs_step_lists.proofs.SaidCourses.{said_course}
+use Rattle.sccs_step_lists.proofs.QuietStepLists.{step_list_chosen, step_list_heard, step_list_with as with_own_input}
+use Rattle.sccs_step_lists.proofs.SaidStepLists.{said_step_list}
 use Rattle.sccs_batch.specs.Batches.{RunsOwn}
-use Rattle.sccs_batch.specs.declared.entries.Entry.{Entry}
+use Rattle.sccs_batch.specs.declared.entries.BatchEntry.{BatchEntry}
 use Rattle.sccs_soak.specs.Commands.{soak_commands}
 use Rattle.sccs_soak.specs.Runs.{RunsSoak}
-use Rattle.sccs_soak.specs.Soak.{BegunSoak, WholeSoak, soak_course}
+use Rattle.sccs_soak.specs.Soak.{BegunSoak, WholeSoak, soak_step_list}
 use Rattle.sccs_top.specs.CommandLaws.{command_might}
 use Rattle.sccs_top.specs.Messages.{usage_line}
-use Rattle.sccs_top.specs.Runs.{AsksBy, AsksInput, AsksWith, AsksWords, BegunAsked, BegunBy, BegunCommand, BegunMeant, BegunOf, BegunOperands, BegunRun, BegunWith, BegunWords, Caller, EndsRun, FitsEntry, IsGiven, LeavesAlone, LeavesAsked, LeavesAskedInput, LeavesInput, LeavesMeant, LeavesOperands, LeavesWith, MadeBy, MakesSteps, RecoversRun, RunsAlone, RunsAsked, RunsCommand, RunsMeant, RunsWords, SpeaksWords, StopsSteps, UnlockedSteps, WholeCommand, WholeOf, WholeOperands, WholeRun, WholeWith, WholeWords, action_of, action_takes, asked_is_silent, asked_reads, caller_by, command_course, course_by, course_with, entry_command, group_takes_input, group_use, is_of_operands, is_recovery, is_silent, list_in, list_takes_input, only_reads, operands_course, operands_of, run_course, run_steps, steps_answer, steps_by, val_words_of, words_take_input, working}
+use Rattle.sccs_top.specs.Runs.{AsksBy, AsksInput, AsksWith, AsksWords, BegunAsked, BegunBy, BegunCommand, BegunMeant, BegunOf, BegunOperands, BegunRun, BegunWith, BegunWords, Caller, EndsRun, FitsEntry, IsGiven, LeavesAlone, LeavesAsked, LeavesAskedInput, LeavesInput, LeavesMeant, LeavesOperands, LeavesWith, MadeBy, MakesSteps, RecoversRun, RunsAlone, RunsAsked, RunsCommand, RunsMeant, RunsWords, SpeaksWords, StopsSteps, UnlockedSteps, WholeCommand, WholeOf, WholeOperands, WholeRun, WholeWith, WholeWords, action_of, action_takes, asked_is_silent, asked_reads, caller_by, command_step_list, step_list_by, step_list_with, entry_command, group_takes_input, group_use, is_of_operands, is_recovery, is_silent, list_in, list_takes_input, only_reads, operands_step_list, operands_of, run_step_list, run_steps, steps_answer, steps_by, val_words_of, words_take_input, working}
 use Rattle.sccs_top.proofs.SoakFits.{soak_fits}
 use Rattle.sccs_top.specs.declared.asking.Asked.{Asked}
 use Rattle.sccs_top.specs.declared.asking.Asked.TheVariants as ask
@@ -60,19 +60,19 @@ use Rattle.std.proofs.lemmas.Bool.{and_parts}
 
 -- ---- single commands
 
--- the steps of a command are a course of one portion
-single_course : (val : Option ValWords) (x : Action) (operands : List (List ℕ)) (r : Result ℕ Fault) (s t : Setting) → TakesSfiles x → RunsCommand val x operands r s t
-    → RunsCourse (portion_of x (steps_by val x operands)) (IsInput x operands s.left) (WholeBy x.rule (MadeBy val x operands)) (BegunBy val x operands) r s t
-single_course None x operands r s t takes runs = steps_course x (steps_by None x operands) (IsInput x operands s.left) (MadeBy None x operands) (BegunBy None x operands) (hears x operands) r s t takes runs
-single_course (Some words) x operands r s t takes runs = steps_course x (steps_by (Some words) x operands) (IsInput x operands s.left) (MadeBy (Some words) x operands) (BegunBy (Some words) x operands) (hears x operands) r s t takes runs
+-- the steps of a command are a list of steps of one portion
+single_step_list : (val : Option ValWords) (x : Action) (operands : List (List ℕ)) (r : Result ℕ Fault) (s t : Setting) → TakesSfiles x → RunsCommand val x operands r s t
+    → RunsStepList (portion_of x (steps_by val x operands)) (IsInput x operands s.left) (WholeBy x.rule (MadeBy val x operands)) (BegunBy val x operands) r s t
+single_step_list None x operands r s t takes runs = steps_step_list x (steps_by None x operands) (IsInput x operands s.left) (MadeBy None x operands) (BegunBy None x operands) (hears x operands) r s t takes runs
+single_step_list (Some words) x operands r s t takes runs = steps_step_list x (steps_by (Some words) x operands) (IsInput x operands s.left) (MadeBy (Some words) x operands) (BegunBy (Some words) x operands) (hears x operands) r s t takes runs
 
 pub operands_runs : (who : Caller) (command : Command) (r : Result ℕ Fault) (s t : Setting) → RunsCommand (val_words_of command) (action_of who command) (operands_of command) r s t
-    → RunsCourse (operands_course who command) (IsInput (action_of who command) (operands_of command) s.left) (WholeOperands who command) (BegunOperands who command) r s t
-operands_runs who command r s t runs = single_course (val_words_of command) (action_of who command) (operands_of command) r s t (action_takes who command) runs
+    → RunsStepList (operands_step_list who command) (IsInput (action_of who command) (operands_of command) s.left) (WholeOperands who command) (BegunOperands who command) r s t
+operands_runs who command r s t runs = single_step_list (val_words_of command) (action_of who command) (operands_of command) r s t (action_takes who command) runs
 
 -- by what a command does with a group
 abbrev pub RunsWith : Option GroupUse → Caller → Command → Result ℕ Fault → Setting → Setting → Type 0
-RunsWith group who command r s t = RunsCourse (course_with group who command) (AsksWith group who command s.left) (WholeWith group who command) (BegunWith group who command) r s t
+RunsWith group who command r s t = RunsStepList (step_list_with group who command) (AsksWith group who command s.left) (WholeWith group who command) (BegunWith group who command) r s t
 
 pub runs_with : (group : Option GroupUse) (who : Caller) (command : Command) (r : Result ℕ Fault) (s t : Setting) → group_use command ≡ group → RunsWith group who command r s t → RunsAlone who command r s t
 runs_with group who command r s t is runs = subst (λ (o : Option GroupUse). RunsWith o who command r s t) (sym is) runs
@@ -92,8 +92,8 @@ words_run who meant command r s t is runs = subst (λ (m : Result Command Usage)
 
 -- a usage fault was said, or a prefix of it
 usage_runs : (who : Caller) (usage : Usage) (given : List ℕ → Type 0) (r : Result ℕ Fault) (s t : Setting) → t.stage.told ≡ s.stage.told → IsSaid [] (usage_line usage) 2 r s.stage t.stage → RunCauses r s.faults t.faults
-    → RunsCourse (command_course who (Err usage)) given (WholeCommand who (Err usage)) (BegunCommand who (Err usage)) r s t
-usage_runs who usage given r s t same is causes = said_course [] (usage_line usage) 2 given r s t same is causes
+    → RunsStepList (command_step_list who (Err usage)) given (WholeCommand who (Err usage)) (BegunCommand who (Err usage)) r s t
+usage_runs who usage given r s t same is causes = said_step_list [] (usage_line usage) 2 given r s t same is causes
 
 pub words_said : (who : Caller) (meant : Result Command Usage) (usage : Usage) (r : Result ℕ Fault) (s t : Setting) → meant ≡ Err usage → t.stage.told ≡ s.stage.told → IsSaid [] (usage_line usage) 2 r s.stage t.stage → RunCauses r s.faults t.faults → RunsWords who meant r s t
 words_said who meant usage r s t is same says causes = subst (λ (m : Result Command Usage). RunsWords who m r s t) (sym is) (inl (usage_runs who usage (λ i. Unit {0}) r s t same says causes))
@@ -126,7 +126,7 @@ unsaid_causes i o e e2 d later rose = record {
 -- ---- an entry of a batch
 
 -- with the input of its own
-pub entry_runs : (quiet : Bool) (place : List ℕ) (e : Entry) (r : Result ℕ Fault) (left left2 : Option (List ℕ)) (a b : Scene) (o o2 x x2 d d2 : ℕ) → left ≡ Some e.input
+pub entry_runs : (quiet : Bool) (place : List ℕ) (e : BatchEntry) (r : Result ℕ Fault) (left left2 : Option (List ℕ)) (a b : Scene) (o o2 x x2 d d2 : ℕ) → left ≡ Some e.input
     → RunsWords (caller_by quiet e.stamp place) (meaning e.words) r (record { left = left; stage = a; faults = counts 0 o x d }) (record { left = left2; stage = b; faults = counts 0 o2 x2 d2 })
     → RunsOwn (entry_command quiet place e) (FitsEntry quiet place e) (WholeOf quiet place e) (BegunOf quiet place e) r (record { left = Some []; stage = a; faults = counts 0 o x d }) (record { left = Some []; stage = b; faults = counts 0 o2 x2 d2 })
 entry_runs quiet place e r left left2 a b o o2 x x2 d d2 is (inl runs) =
@@ -134,16 +134,16 @@ entry_runs quiet place e r left left2 a b o o2 x x2 d d2 is (inl runs) =
     let s : Setting = record { left = left; stage = a; faults = counts 0 o x d } in
     let t : Setting = record { left = left2; stage = b; faults = counts 0 o2 x2 d2 } in
     inl
-    (course_heard (entry_command quiet place e) (λ i. FitsEntry quiet place e) (WholeOf quiet place e) (BegunOf quiet place e) r s t (Some []) (Some []) 0 refl refl
-    (with_own_input (command_course who (meaning e.words)) e.input (AsksInput who (meaning e.words) (Some e.input)) (WholeOf quiet place e) (BegunOf quiet place e) r s t
-    (subst (λ (l : Option (List ℕ)). RunsCourse (command_course who (meaning e.words)) (AsksInput who (meaning e.words) l) (WholeOf quiet place e) (BegunOf quiet place e) r s t) is runs)))
+    (step_list_heard (entry_command quiet place e) (λ i. FitsEntry quiet place e) (WholeOf quiet place e) (BegunOf quiet place e) r s t (Some []) (Some []) 0 refl refl
+    (with_own_input (command_step_list who (meaning e.words)) e.input (AsksInput who (meaning e.words) (Some e.input)) (WholeOf quiet place e) (BegunOf quiet place e) r s t
+    (subst (λ (l : Option (List ℕ)). RunsStepList (command_step_list who (meaning e.words)) (AsksInput who (meaning e.words) l) (WholeOf quiet place e) (BegunOf quiet place e) r s t) is runs)))
 entry_runs quiet place e r left left2 a b o o2 x x2 d d2 is (inr never) =
     inr (never.0, ap (λ (u : Setting). record { left = Some []; stage = u.stage; faults = u.faults }) never.1)
 
 -- ---- lists, and single commands
 
 abbrev pub RunsBy : Option CommandList → Caller → Command → Result ℕ Fault → Setting → Setting → Type 0
-RunsBy list who command r s t = RunsCourse (course_by list who command) (AsksBy list who command s.left) (WholeRun list who command) (BegunRun list who command) r s t
+RunsBy list who command r s t = RunsStepList (step_list_by list who command) (AsksBy list who command s.left) (WholeRun list who command) (BegunRun list who command) r s t
 
 pub run_by : (list : Option CommandList) (who : Caller) (command : Command) (r : Result ℕ Fault) (s t : Setting) → list_in command ≡ list → RunsBy list who command r s t → RunsMeant who (Ok command) r s t
 run_by list who command r s t is runs = subst (λ (o : Option CommandList). RunsBy o who command r s t) (sym is) runs
@@ -152,8 +152,8 @@ run_by list who command r s t is runs = subst (λ (o : Option CommandList). Runs
 pub soak_runs : (number : ℕ) (who : Caller) (command : Command) (r : Result ℕ Fault) (s t : Setting) (left left2 : Option (List ℕ)) (count : ℕ) → s.faults.input ≡ 0 → t.faults.input ≡ 0
     → RunsSoak (entry_command true who.place) (FitsEntry true who.place) (WholeOf true who.place) (BegunOf true who.place) number r s t → RunsBy (Some (list.Soak number)) who command r (with_input left count s) (with_input left2 count t)
 soak_runs number who command r s t left left2 count none none2 runs =
-    course_heard (soak_course (entry_command true who.place) number) (λ i. Unit {0}) (WholeSoak (WholeOf true who.place) number) (BegunSoak (WholeOf true who.place) (BegunOf true who.place) number) r s t left left2 count none none2
-    (course_chosen (λ i. soak_course (entry_command true who.place) number) (soak_course (entry_command true who.place) number) (λ i. Unit {0}) (λ i. AllByRecursion (FitsEntry true who.place) (soak_commands number))
+    step_list_heard (soak_step_list (entry_command true who.place) number) (λ i. Unit {0}) (WholeSoak (WholeOf true who.place) number) (BegunSoak (WholeOf true who.place) (BegunOf true who.place) number) r s t left left2 count none none2
+    (step_list_chosen (λ i. soak_step_list (entry_command true who.place) number) (soak_step_list (entry_command true who.place) number) (λ i. Unit {0}) (λ i. AllByRecursion (FitsEntry true who.place) (soak_commands number))
     (WholeSoak (WholeOf true who.place) number) (BegunSoak (WholeOf true who.place) (BegunOf true who.place) number) r s t runs.takes (λ i any. refl) (λ i any. soak_fits true who.place number) runs)
 
 pub listed_leaves : (who : Caller) (command : Command) (some : CommandList) (r : Result ℕ Fault) (s t : Setting) → list_in command ≡ Some some → LeavesMeant who command r s t
@@ -182,7 +182,7 @@ alone_input who command r s t is leaves none =
 
 -- ---- how a run ends
 
-given_to : (who : Caller) (words : Result Asked Usage) (left : Option (List ℕ)) (m : Folder) (i : List ℕ) → IsGiven who words left m i → IsGivenTo (run_course who words) (AsksWords who words left) m i
+given_to : (who : Caller) (words : Result Asked Usage) (left : Option (List ℕ)) (m : Folder) (i : List ℕ) → IsGiven who words left m i → IsGivenTo (run_step_list who words) (AsksWords who words left) m i
 given_to who (Err usage) left m i given = (tt, (record { names = ((λ fits. absurd (cc)), tt); plan = λ is. absurd (cc) }, tt))
 given_to who (Ok asked) left m i given = given
 
@@ -195,18 +195,18 @@ answer_ends code w DiskFault m ts a b runs = runs
 
 pub words_end : (who : Caller) (words : Result Asked Usage) (answer : Answer) (made : Result ℕ Fault) (s t : Setting) → steps_answer answer ≡ made → RunsAsked who words made s t → MakesSteps who words answer s.left s.stage t.stage
 words_end who words answer made s t answered runs = λ m i given shows known.
-    answer_ends (run_course who words m i).status (working who words m i) answer m (run_steps who words m i) (shown s.stage) (shown t.stage)
-    (subst (λ (r : Result ℕ Fault). RunsTo (run_course who words m i).status (working who words m i) r m (run_steps who words m i) (shown s.stage) (shown t.stage)) (sym answered)
-    (own_makes (run_course who words) (AsksWords who words s.left) made s.stage t.stage runs.steps m i (given_to who words s.left m i given) shows known))
+    answer_ends (run_step_list who words m i).status (working who words m i) answer m (run_steps who words m i) (shown s.stage) (shown t.stage)
+    (subst (λ (r : Result ℕ Fault). RunsTo (run_step_list who words m i).status (working who words m i) r m (run_steps who words m i) (shown s.stage) (shown t.stage)) (sym answered)
+    (own_makes (run_step_list who words) (AsksWords who words s.left) made s.stage t.stage runs.steps m i (given_to who words s.left m i given) shows known))
 
 pub words_stop : (who : Caller) (words : Result Asked Usage) (answer : Answer) (made : Result ℕ Fault) (s t : Setting) → steps_answer answer ≡ made → RunsAsked who words made s t → StopsSteps who words answer s.left s.stage t.stage
 words_stop who words answer made s t answered runs = λ folder i m past given shows told may safe.
-    subst (λ (r : Result ℕ Fault). CourseMoments (working who words folder i) r folder (run_steps who words folder i) s.stage t.stage m past) (sym answered)
-    (own_stops (run_course who words) (AsksWords who words s.left) made s.stage t.stage runs.stops folder i m past (given_to who words s.left folder i given) shows told may safe)
+    subst (λ (r : Result ℕ Fault). StepListCrashPoints (working who words folder i) r folder (run_steps who words folder i) s.stage t.stage m past) (sym answered)
+    (own_stops (run_step_list who words) (AsksWords who words s.left) made s.stage t.stage runs.stops folder i m past (given_to who words s.left folder i given) shows told may safe)
 
 pub words_unlocked : (who : Caller) (words : Result Asked Usage) (made : Result ℕ Fault) (s t : Setting) → RunsAsked who words made s t → UnlockedSteps who words s.left s.stage.told t.stage.told
 words_unlocked who words made s t runs = λ folder i given shows known exempt plain freed.
-    own_unlocked (run_course who words) (AsksWords who words s.left) s.stage.told t.stage.told runs.unlocked folder i (given_to who words s.left folder i given) shows known exempt plain freed
+    own_unlocked (run_step_list who words) (AsksWords who words s.left) s.stage.told t.stage.told runs.unlocked folder i (given_to who words s.left folder i given) shows known exempt plain freed
 
 pub words_speak : (who : Caller) (words : Result Asked Usage) (answer : Answer) (made : Result ℕ Fault) (s t : Setting) → steps_answer answer ≡ made → RunsAsked who words made s t → SpeaksWords who words answer s.stage.err t.stage.err
 words_speak who words answer made s t answered runs = subst (λ (r : Result ℕ Fault). SpeaksTo (WholeWords who words) (BegunWords who words) r s.stage.err t.stage.err) (sym answered) runs.speaks
@@ -347,5 +347,5 @@ never_begun who words left a = λ m i given shows known. (
 
 pub never_stops : (who : Caller) (words : Result Asked Usage) (left : Option (List ℕ)) (a : Scene) → StopsSteps who words Memory left a a
 never_stops who words left a = λ folder i m past given shows told may safe.
-    course_moments (working who words folder i) (steps_answer Memory) folder (run_steps who words folder i) a a m past
-    (moments_never (working who words folder i) ends.Memory folder (run_steps who words folder i) a m past told may shows) (λ other. keeps_same (view_in folder)) (images_now m)
+    step_list_crash_points (working who words folder i) (steps_answer Memory) folder (run_steps who words folder i) a a m past
+    (crash_points_never (working who words folder i) ends.Memory folder (run_steps who words folder i) a m past told may shows) (λ other. keeps_same (view_in folder)) (images_now m)

@@ -4,25 +4,25 @@ use Rattle.std.proofs.Common.{inl, inr, refl}
 use Rattle.sccs_base.specs.Name.{sfile_name_decides}
 use Rattle.sccs_disk.specs.Files.{Folder}
 use Rattle.sccs_steps.specs.StepLists.{NamedStep, named_step}
-use Rattle.sccs_step_lists.specs.Courses.{AllTake, portions_of, said}
+use Rattle.sccs_step_lists.specs.StepLists.{AllTake, portions_of, said}
 use Rattle.sccs_words.specs.declared.commands.Command.{Command}
 use Rattle.sccs_words.specs.declared.commands.Command.TheVariants as c
 use Rattle.sccs_words.specs.declared.commands.Usage.{Usage}
 use Rattle.sccs_val.specs.ValStep.{val_effect}
 use Rattle.sccs_group_command.specs.GroupStep.{joint_step}
-use Rattle.sccs_group_command.proofs.GroupCourses.{begun_none, group_takes}
+use Rattle.sccs_group_command.proofs.GroupStepLists.{begun_none, group_takes}
 use Rattle.sccs_recovery.specs.FinishStep.{finishing_step}
 use Rattle.sccs_top.specs.Messages.{usage_line}
-use Rattle.sccs_top.specs.Runs.{BegunCommand, BegunOperands, BegunWith, Caller, action_takes, command_course, course_with, freed_at, freeing, group_use}
+use Rattle.sccs_top.specs.Runs.{BegunCommand, BegunOperands, BegunWith, Caller, action_takes, command_step_list, step_list_with, freed_at, freeing, group_use}
 use Rattle.sccs_top.specs.declared.commands.GroupUse.{GroupUse}
 use Rattle.sccs_top.specs.declared.commands.GroupUse.TheVariants as uses
 
-takes_with : (group : Option GroupUse) (who : Caller) (command : Command) (folder : Folder) (i : List ℕ) → AllTake (portions_of (course_with group who command) folder i)
+takes_with : (group : Option GroupUse) (who : Caller) (command : Command) (folder : Folder) (i : List ℕ) → AllTake (portions_of (step_list_with group who command) folder i)
 takes_with None who command folder i = (action_takes who command, tt)
 takes_with (Some uses.Makes) who command folder i = group_takes who.stamp folder i
 takes_with (Some uses.Finishes) who command folder i = ((λ changes n fits. ((sfile_name_decides n).0 fits).1), (action_takes (freeing who (freed_at folder)) command, tt))
 
-pub command_takes : (who : Caller) (meant : Result Command Usage) (folder : Folder) (i : List ℕ) → AllTake (portions_of (command_course who meant) folder i)
+pub command_takes : (who : Caller) (meant : Result Command Usage) (folder : Folder) (i : List ℕ) → AllTake (portions_of (command_step_list who meant) folder i)
 command_takes who (Err usage) folder i = (λ changes n fits. absurd (cc), tt)
 command_takes who (Ok command) folder i = takes_with (group_use command) who command folder i
 

@@ -46,24 +46,24 @@ use Rattle.sccs_prs.specs.PrsStep.{prs_action}
 use Rattle.sccs_val.specs.ValStep.{val_action, val_operands, val_steps}
 use Rattle.sccs_what.specs.Checks.{what_keeps}
 use Rattle.sccs_what.specs.WhatStep.{what_action}
-use Rattle.sccs_step_lists.specs.Courses.{AllExempt, AllPlain, AllSafe, Courses, Portion, TakesSfiles, follow, if_fine, no_action, portion_of, portions_of, saying, steps_along}
-use Rattle.sccs_step_lists.specs.Following.{AreKnown, BegunThen, CourseMoments, RunsCourse, RunsTo, SpeaksTo, WholeBy, WholeThen}
+use Rattle.sccs_step_lists.specs.StepLists.{AllExempt, AllPlain, AllSafe, StepLists, Portion, TakesSfiles, follow, if_fine, no_action, portion_of, portions_of, saying, steps_along}
+use Rattle.sccs_step_lists.specs.Following.{AreKnown, BegunThen, StepListCrashPoints, RunsStepList, RunsTo, SpeaksTo, WholeBy, WholeThen}
 use Rattle.sccs_step_lists.specs.OwnFiles.{IsGivenTo, working_along}
 use Rattle.sccs_step_lists.specs.Sayings.{BegunSaid, WholeSaid}
 use Rattle.sccs_step_lists.specs.WhileFine.{BegunIfFine, WholeIfFine}
-use Rattle.sccs_batch.specs.Batches.{BegunBatch, WholeBatch, batch_course}
+use Rattle.sccs_batch.specs.Batches.{BegunBatch, WholeBatch, batch_step_list}
 use Rattle.sccs_batch.specs.BatchText.{batch_of}
-use Rattle.sccs_batch.specs.declared.entries.Entry.{Entry}
+use Rattle.sccs_batch.specs.declared.entries.BatchEntry.{BatchEntry}
 use Rattle.sccs_words.specs.Meaning.{meaning}
 use Rattle.sccs_base.specs.Cut.{text_of}
 use Rattle.sccs_steps.specs.Causes.{Ignores}
 use Rattle.sccs_top.specs.Messages.{usage_line}
 use Rattle.sccs_recovery.specs.AnyDisk.{RecoversAll}
 use Rattle.sccs_recovery.specs.FinishingEnds.{BegunFinishing, WholeFinishing}
-use Rattle.sccs_recovery.specs.FinishStep.{finishing_course, freed_in}
-use Rattle.sccs_group_command.specs.GroupCourses.{BegunGroup, IsGroupInput, WholeGroup, group_course}
+use Rattle.sccs_recovery.specs.FinishStep.{finishing_step_list, freed_in}
+use Rattle.sccs_group_command.specs.GroupStepLists.{BegunGroup, IsGroupInput, WholeGroup, group_step_list}
 use Rattle.sccs_soak.specs.Dropping.{dropping}
-use Rattle.sccs_soak.specs.Soak.{BegunSoak, WholeSoak, soak_course}
+use Rattle.sccs_soak.specs.Soak.{BegunSoak, WholeSoak, soak_step_list}
 use Rattle.sccs_top.specs.declared.asking.Asked.{Asked}
 use Rattle.sccs_top.specs.declared.asking.Asked.TheVariants as ask
 use Rattle.sccs_top.specs.declared.commands.CommandList.{CommandList}
@@ -223,65 +223,65 @@ abbrev pub is_of_operands : Command → Bool
 is_of_operands command = not (is_some (list_in command)) && not (is_some (group_use command))
 
 -- what a command does with its operands
-abbrev pub operands_course : Caller → Command → Courses
-operands_course who command = portion_of (action_of who command) (steps_by (val_words_of command) (action_of who command) (operands_of command))
+abbrev pub operands_step_list : Caller → Command → StepLists
+operands_step_list who command = portion_of (action_of who command) (steps_by (val_words_of command) (action_of who command) (operands_of command))
 
 -- those that the end of a group frees in a folder
 abbrev pub freed_at : Folder → List ℕ → Bool
 freed_at folder = freed_by (freed_in (view_in folder))
 
 -- a group is made of the input, or finished before the operands, which then tell of the names that it freed
-abbrev pub course_with : Option GroupUse → Caller → Command → Courses
-course_with None who command = operands_course who command
-course_with (Some uses.Makes) who command = group_course who.stamp
-course_with (Some uses.Finishes) who command = λ folder i. follow finishing_course (λ code. operands_course (freeing who (freed_at folder)) command) folder i
+abbrev pub step_list_with : Option GroupUse → Caller → Command → StepLists
+step_list_with None who command = operands_step_list who command
+step_list_with (Some uses.Makes) who command = group_step_list who.stamp
+step_list_with (Some uses.Finishes) who command = λ folder i. follow finishing_step_list (λ code. operands_step_list (freeing who (freed_at folder)) command) folder i
 
 -- what a command does that is no list of commands; a usage fault is said
-abbrev pub command_course : Caller → Result Command Usage → Courses
-command_course who (Err usage) = saying [] (usage_line usage) 2
-command_course who (Ok command) = course_with (group_use command) who command
+abbrev pub command_step_list : Caller → Result Command Usage → StepLists
+command_step_list who (Err usage) = saying [] (usage_line usage) 2
+command_step_list who (Ok command) = step_list_with (group_use command) who command
 
 -- a command of a list does what its words mean, with its own stamp and input
-abbrev pub entry_command : Bool → List ℕ → Entry → Courses
-entry_command quiet place e = λ folder i. command_course (caller_by quiet e.stamp place) (meaning e.words) folder e.input
+abbrev pub entry_command : Bool → List ℕ → BatchEntry → StepLists
+entry_command quiet place e = λ folder i. command_step_list (caller_by quiet e.stamp place) (meaning e.words) folder e.input
 
-abbrev pub course_by : Option CommandList → Caller → Command → Courses
-course_by (Some list.Batch) who command = batch_course (entry_command false who.place)
-course_by (Some (list.Soak number)) who command = soak_course (entry_command true who.place) number
-course_by None who command = command_course who (Ok command)
+abbrev pub step_list_by : Option CommandList → Caller → Command → StepLists
+step_list_by (Some list.Batch) who command = batch_step_list (entry_command false who.place)
+step_list_by (Some (list.Soak number)) who command = soak_step_list (entry_command true who.place) number
+step_list_by None who command = command_step_list who (Ok command)
 
 -- what words that mean a command do
-abbrev pub meant_course : Caller → Result Command Usage → Courses
-meant_course who (Err usage) = command_course who (Err usage)
-meant_course who (Ok command) = course_by (list_in command) who command
+abbrev pub meant_step_list : Caller → Result Command Usage → StepLists
+meant_step_list who (Err usage) = command_step_list who (Err usage)
+meant_step_list who (Ok command) = step_list_by (list_in command) who command
 
 -- what follows a first command, which has no input
-abbrev pub next_course : Caller → Result Command Usage → Courses
-next_course who next = λ folder i. meant_course who next folder []
+abbrev pub next_step_list : Caller → Result Command Usage → StepLists
+next_step_list who next = λ folder i. meant_step_list who next folder []
 
 -- what a run does: of two commands the second where the first one's status is 0
-abbrev pub asked_course : Caller → Asked → Courses
-asked_course who (ask.One command) = meant_course who (Ok command)
-asked_course who (ask.Two first next) = follow (meant_course who (Ok first)) (if_fine (next_course who next))
+abbrev pub asked_step_list : Caller → Asked → StepLists
+asked_step_list who (ask.One command) = meant_step_list who (Ok command)
+asked_step_list who (ask.Two first next) = follow (meant_step_list who (Ok first)) (if_fine (next_step_list who next))
 
-abbrev pub run_course : Caller → Result Asked Usage → Courses
-run_course who (Err usage) = meant_course who (Err usage)
-run_course who (Ok asked) = asked_course who asked
+abbrev pub run_step_list : Caller → Result Asked Usage → StepLists
+run_step_list who (Err usage) = meant_step_list who (Err usage)
+run_step_list who (Ok asked) = asked_step_list who asked
 
 -- the steps of a run in a folder, with an input; and those of a single command
 abbrev pub run_steps : Caller → Result Asked Usage → Folder → List ℕ → List NamedStep
-run_steps who words m i = steps_along (run_course who words) m i
+run_steps who words m i = steps_along (run_step_list who words) m i
 
 abbrev pub command_steps : Caller → Result Command Usage → Folder → List ℕ → List NamedStep
-command_steps who meant m i = steps_along (command_course who meant) m i
+command_steps who meant m i = steps_along (command_step_list who meant) m i
 
 -- their actions
 abbrev pub run_portions : Caller → Result Asked Usage → Folder → List ℕ → List Portion
-run_portions who words m i = portions_of (run_course who words) m i
+run_portions who words m i = portions_of (run_step_list who words) m i
 
 -- the working files of a run; a command that only reads has none
 abbrev pub working : Caller → Result Asked Usage → Folder → List ℕ → List ℕ → Bool
-working who words m i = working_along (run_course who words) m i
+working who words m i = working_along (run_step_list who words) m i
 
 -- ---- what is asked
 
@@ -296,7 +296,7 @@ AsksInput who (Err usage) left i = Unit {0}
 AsksInput who (Ok command) left i = AsksWith (group_use command) who command left i
 
 -- each command of a list has an input of its own
-abbrev pub FitsEntry : Bool → List ℕ → Entry → Type 0
+abbrev pub FitsEntry : Bool → List ℕ → BatchEntry → Type 0
 FitsEntry quiet place e = AsksInput (caller_by quiet e.stamp place) (meaning e.words) (Some e.input) e.input
 
 -- of a soak nothing is asked
@@ -320,7 +320,7 @@ AsksWords who (Ok asked) left i = AsksFor who asked left i
 -- the same, and the files of the names of steps are apart from working files
 abbrev pub IsGiven : Caller → Result Asked Usage → Option (List ℕ) → Folder → List ℕ → Type 0
 IsGiven who (Err usage) left m i = Unit {0}
-IsGiven who (Ok asked) left m i = IsGivenTo (asked_course who asked) (AsksFor who asked left) m i
+IsGiven who (Ok asked) left m i = IsGivenTo (asked_step_list who asked) (AsksFor who asked left) m i
 
 -- ---- over any disk
 
@@ -366,10 +366,10 @@ BegunCommand who (Err usage) = BegunSaid [] (usage_line usage)
 BegunCommand who (Ok command) = BegunWith (group_use command) who command
 
 -- those of a command of a list
-abbrev pub WholeOf : Bool → List ℕ → Entry → ℕ → List NamedStep → Type 0
+abbrev pub WholeOf : Bool → List ℕ → BatchEntry → ℕ → List NamedStep → Type 0
 WholeOf quiet place e = WholeCommand (caller_by quiet e.stamp place) (meaning e.words)
 
-abbrev pub BegunOf : Bool → List ℕ → Entry → List NamedStep → Type 0
+abbrev pub BegunOf : Bool → List ℕ → BatchEntry → List NamedStep → Type 0
 BegunOf quiet place e = BegunCommand (caller_by quiet e.stamp place) (meaning e.words)
 
 -- those of a run
@@ -412,20 +412,20 @@ BegunWords who (Ok asked) = BegunAsked who asked
 
 -- a call that does a command that is no list of commands
 abbrev pub RunsAlone : Caller → Command → Result ℕ Fault → Setting → Setting → Type 0
-RunsAlone who command r s t = RunsCourse (command_course who (Ok command)) (AsksInput who (Ok command) s.left) (WholeCommand who (Ok command)) (BegunCommand who (Ok command)) r s t
+RunsAlone who command r s t = RunsStepList (command_step_list who (Ok command)) (AsksInput who (Ok command) s.left) (WholeCommand who (Ok command)) (BegunCommand who (Ok command)) r s t
 
 -- the same of words, or it did nothing for want of memory
 abbrev pub RunsWords : Caller → Result Command Usage → Result ℕ Fault → Setting → Setting → Type 0
 RunsWords who meant r s t =
-    RunsCourse (command_course who meant) (AsksInput who meant s.left) (WholeCommand who meant) (BegunCommand who meant) r s t ⊎ ((r ≡ Err ends.Memory) × (t ≡ s))
+    RunsStepList (command_step_list who meant) (AsksInput who meant s.left) (WholeCommand who meant) (BegunCommand who meant) r s t ⊎ ((r ≡ Err ends.Memory) × (t ≡ s))
 
 -- a call that does what words mean
 abbrev pub RunsMeant : Caller → Result Command Usage → Result ℕ Fault → Setting → Setting → Type 0
-RunsMeant who meant r s t = RunsCourse (meant_course who meant) (AsksMeant who meant s.left) (WholeMeant who meant) (BegunMeant who meant) r s t
+RunsMeant who meant r s t = RunsStepList (meant_step_list who meant) (AsksMeant who meant s.left) (WholeMeant who meant) (BegunMeant who meant) r s t
 
 -- a call that does what words ask for
 abbrev pub RunsAsked : Caller → Result Asked Usage → Result ℕ Fault → Setting → Setting → Type 0
-RunsAsked who words r s t = RunsCourse (run_course who words) (AsksWords who words s.left) (WholeWords who words) (BegunWords who words) r s t
+RunsAsked who words r s t = RunsStepList (run_step_list who words) (AsksWords who words s.left) (WholeWords who words) (BegunWords who words) r s t
 
 -- What a call leaves as it was that makes the steps of operands.
 pub record LeavesOperands (x : Action) (hearing : Bool) (r : Result ℕ Fault) (s t : Setting) : Type 0 where
@@ -474,7 +474,7 @@ EndsRun code w DiskFault m ts a b = ListInterrupted w m ts a b
 abbrev pub MakesSteps : Caller → Result Asked Usage → Answer → Option (List ℕ) → Scene → Scene → Type 0
 MakesSteps who words answer left a b = (m : Folder) (i : List ℕ)
     → IsGiven who words left m i → Shows (working who words m i) (seen a.told) (view_in m) → AreKnown a.told m (run_portions who words m i)
-    → EndsRun (run_course who words m i).status (working who words m i) answer m (run_steps who words m i) (shown a) (shown b)
+    → EndsRun (run_step_list who words m i).status (working who words m i) answer m (run_steps who words m i) (shown a) (shown b)
 
 -- the answer as that of steps
 abbrev pub steps_answer : Answer → Result ℕ Fault
@@ -543,7 +543,7 @@ abbrev pub StopsSteps : Caller → Result Asked Usage → Answer → Option (Lis
 StopsSteps who words answer left a b = (folder : Folder) (i : List ℕ) (m : Model) (past : List Model)
     → IsGiven who words left folder i → Shows (working who words folder i) (seen a.told) (view_in folder)
     → a.told ≡ Tells m past → MayBegin folder m → AllSafe (view_in folder) (run_portions who words folder i)
-    → CourseMoments (working who words folder i) (steps_answer answer) folder (run_steps who words folder i) a b m past
+    → StepListCrashPoints (working who words folder i) (steps_answer answer) folder (run_steps who words folder i) a b m past
 
 -- Before each change of an s-file or p-file its z-file wasn't there at a moment of the run, but of names that are recovered.
 abbrev pub UnlockedSteps : Caller → Result Asked Usage → Option (List ℕ) → Told → Told → Type 0

@@ -5,9 +5,9 @@ ghost use Rattle.sccs_disk.specs.Files.{Content, Folder, Model, View, view_in, v
 ghost use Rattle.sccs_disk.specs.Images.{Allows};
 ghost use Rattle.sccs_disk.specs.Told.{Told, seen};
 ghost use Rattle.sccs_name_files.specs.Touches.{Each, newest};
-ghost use Rattle.sccs_base.specs.Name.{IsSfile};
+ghost use Rattle.sccs_base.specs.Name.{IsSFileName};
 ghost use Rattle.sccs_group.specs.Finishing.{CanFinish};
-ghost use Rattle.sccs_crash_points.specs.Moments.{IsCalmUnnamed};
+ghost use Rattle.sccs_crash_points.specs.CrashPoints.{IsCalmUnnamed};
 ghost use Rattle.sccs_crash_points.specs.Recovery.{fate_at};
 ghost use Rattle.sccs_steps.specs.StepStops.{IsSafe};
 ghost use Rattle.sccs_sid.specs.declared.moments.Stamp.{Stamp};
@@ -19,8 +19,8 @@ ghost use Rattle.sccs_steps.specs.StepEffects.{StepEffect};
 ghost use Rattle.sccs_steps.specs.StepLists.{NamedStep, folder_after};
 ghost use Rattle.sccs_steps.specs.declared.faults.Fault.{Fault};
 ghost use Rattle.sccs_steps.specs.declared.faults.Fault.TheVariants as ends;
-ghost use Rattle.sccs_step_lists.specs.Courses.{AllSafe, AllTake, Portion};
-ghost use Rattle.sccs_step_lists.specs.Following.{AreKnown, CourseMoments, RecoversTold};
+ghost use Rattle.sccs_step_lists.specs.StepLists.{AllSafe, AllTake, Portion};
+ghost use Rattle.sccs_step_lists.specs.Following.{AreKnown, StepListCrashPoints, RecoversTold};
 ghost use Rattle.sccs_words.specs.declared.commands.AdminWords.{AdminWords};
 ghost use Rattle.sccs_words.specs.declared.commands.Usage.{Usage};
 ghost use Rattle.sccs_admin.specs.AdminStep.{AreAdminValues, admin_outcome};
@@ -39,12 +39,12 @@ ghost use Rattle.sccs_top.specs.Runs.{Caller, run_portions, words_recover};
 /// ended, where each name of an intent that it left was so.
 pub fn runs_follow_one_another()
     ensures ended { (w : List ℕ → Bool) (r : Result ℕ Fault) (folder : Folder) (ts : List NamedStep) (a b : Scene) (m : Model) (past : List Model)
-        → (run : CourseMoments w r folder ts a b m past) → r ≢ Err ends.DiskFault → MayFollow m folder (folder_after folder (take run.list.number ts)) b.told }
+        → (run : StepListCrashPoints w r folder ts a b m past) → r ≢ Err ends.DiskFault → MayFollow m folder (folder_after folder (take run.list.number ts)) b.told }
     ensures stopped { (w : List ℕ → Bool) (r : Result ℕ Fault) (folder : Folder) (ts : List NamedStep) (a b : Scene) (m : Model) (past : List Model)
-        → (run : CourseMoments w r folder ts a b m past) → Each (Allows (FollowsStop m folder ts)) run.list.went.added m }
+        → (run : StepListCrashPoints w r folder ts a b m past) → Each (Allows (FollowsStop m folder ts)) run.list.went.added m }
     ensures faulted { (w : List ℕ → Bool) (r : Result ℕ Fault) (folder : Folder) (ts : List NamedStep) (a b : Scene) (m : Model) (past : List Model)
-        → (run : CourseMoments w r folder ts a b m past)
-        → ((n : List ℕ) → IsSfile n → IsSome (fate_at (view_of (newest run.list.went.added m)) n) → Allows (IsSafe n) m) → CanFinish (newest run.list.went.added m) }
+        → (run : StepListCrashPoints w r folder ts a b m past)
+        → ((n : List ℕ) → IsSFileName n → IsSome (fate_at (view_of (newest run.list.went.added m)) n) → Allows (IsSafe n) m) → CanFinish (newest run.list.went.added m) }
     ensures safe { (ps : List Portion) (u v : View) → KeepsSafe u v → AllTake ps → AllSafe u ps → AllSafe v ps }
 {}
 

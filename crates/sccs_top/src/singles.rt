@@ -9,7 +9,7 @@ ghost use Rattle.sccs_top.specs.Runs.{BegunOf, FitsEntry, RunsWords, WholeOf, ca
 use crate::commands::run_alone;
 use crate::messages::write_usage;
 use sccs_base::{Line, Sink, Source, SteadySource, Words};
-use sccs_batch::{Commands, Entry};
+use sccs_batch::{BatchEntry, Commands};
 use sccs_disk::Disk;
 use sccs_sid::Stamp;
 use sccs_steps::Fault;
@@ -67,7 +67,7 @@ impl<'a> Commands for Singles<'a> {
     fn run<O: Sink, E: Sink, D: Disk>(
         &self,
         alloc: Global,
-        entry: &Entry,
+        entry: &BatchEntry,
         out: &mut O,
         err: &mut E,
         disk: &mut D,

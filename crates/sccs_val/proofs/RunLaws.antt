@@ -18,7 +18,7 @@ use Rattle.sccs_sid.specs.declared.refusals.StepFault.TheVariants.{Refused, Memo
 use Rattle.sccs_steps.specs.Actions.{IsHeard, KeepsFiles, RefusesWithin, SteppedAs, has_number, step_at}
 use Rattle.sccs_steps.specs.Calls.{Meets, scene, shown, world}
 use Rattle.sccs_steps.specs.Causes.{RunCauses, StepCauses, counts}
-use Rattle.sccs_steps.specs.ListStops.{RunMoments, Spares}
+use Rattle.sccs_steps.specs.ListStops.{RunCrashPoints, Spares}
 use Rattle.sccs_steps.specs.Messages.{Concludes}
 use Rattle.sccs_steps.specs.Running.{MakesBy, StopsBy}
 use Rattle.sccs_steps.specs.StepEffects.{Outcome, StepEffect, effect_of}
@@ -26,7 +26,7 @@ use Rattle.sccs_steps.specs.declared.faults.Fault.{Fault}
 use Rattle.sccs_steps.specs.declared.faults.Fault.TheVariants as ends
 use Rattle.sccs_steps.proofs.NameLaws.{fitting, stepped_runs}
 use Rattle.sccs_steps.proofs.NameStops.{stepped_stops}
-use Rattle.sccs_steps.proofs.ReadingMoments.{reading_moments_as}
+use Rattle.sccs_steps.proofs.ReadingCrashPoints.{reading_crash_points_as}
 use Rattle.sccs_steps.proofs.ReadingSteps.{broken, kept, same_cleared}
 use Rattle.sccs_words.specs.declared.commands.ValWords.{ValWords}
 use Rattle.sccs_table.specs.ReaderState.{file_in}
@@ -178,9 +178,9 @@ pub val_stops : (words : ValWords) (made : Result ℕ StepFault) (r : Result ℕ
     → StopsBy (val_action words) (val_steps words) (IsHeard (takes_lines words) left) r (scene a out err) (scene b out2 err2)
 val_stops words made r left a b out out2 err err2 same told says = λ w folder i m past spares clear shows heard is may safe.
     let y = val_over words (view_in folder) in
-    let ran : RunMoments y w r folder (val_steps words folder i) (scene a out err) (scene b out2 err2) m past =
+    let ran : RunCrashPoints y w r folder (val_steps words folder i) (scene a out err) (scene b out2 err2) m past =
     stepped_stops y (codes "-") (codes "-") made r left (scene a out err) (scene b out2 err) err2 (val_keeps words (view_in folder)) refl refl (λ reads. same)
-    (reading_moments_as (λ (code : ℕ). code) y made (codes "-") left (scene a out err) (scene b out2 err) (val_keeps words (view_in folder)) refl same (val_stepped words w folder (codes "-") made left a b out out2 err same spares shows told))
+    (reading_crash_points_as (λ (code : ℕ). code) y made (codes "-") left (scene a out err) (scene b out2 err) (val_keeps words (view_in folder)) refl same (val_stepped words w folder (codes "-") made left a b out out2 err same spares shows told))
     (λ changes. absurd (cc), λ changes locks. absurd (cc)) says w folder i m past spares clear shows heard is may safe in
     record { list = ran.list; acknowledged = ran.acknowledged; safe = ran.safe; keeps = ran.keeps; images = ran.images }
 

@@ -1,6 +1,6 @@
 ghost use Rattle.std.specs.Prelude.{◌≡◌, ℕ, ◌≤◌, [], not, IfOk, IfSome};
 ghost use Rattle.std.specs.Str.{bytes_eq};
-ghost use Rattle.sccs_base.specs.Name.{IsSfile};
+ghost use Rattle.sccs_base.specs.Name.{IsSFileName};
 ghost use Rattle.sccs_disk.specs.Told.{seen};
 ghost use Rattle.sccs_sid.specs.Sid.{sid_of};
 ghost use Rattle.sccs_steps.specs.Actions.{RefusesWithin};
@@ -117,7 +117,7 @@ fn differs(asked: &Option<Bytes>, text: &[u8]) -> bool
 
 // what is found of a whole file
 fn find_in(words: &ValWords, name: &Name, header: &Header) -> Findings
-    requires { IsSfile name.now }
+    requires { IsSFileName name.now }
     ensures { result ≡ found_in words.now name.now header.now }
 {
     let (invalid_sid, missing_sid) = match &words.sid {

@@ -5,7 +5,7 @@ ghost use Rattle.sccs_group.specs.Members.{AreMembers};
 use sccs_base::Name;
 use sccs_disk::{DiskRefusal, Fill, MemoryDisk};
 use sccs_group::*;
-use sccs_intents::{Entry, Fate};
+use sccs_intents::{Fate, IntentEntry};
 use sccs_sid::{Refusal, StepFault};
 use std::alloc::Global;
 use std::test::Fail;
@@ -27,14 +27,14 @@ fn two_members(alloc: Global) -> Result<Members, Fail>
     };
     let mut members = Members::empty(alloc);
     members.push(Member {
-        entry: Entry {
+        entry: IntentEntry {
             name: first,
             fate: Fate::Replaced,
         },
         removes_g: true,
     })?;
     members.push(Member {
-        entry: Entry {
+        entry: IntentEntry {
             name: second,
             fate: Fate::Removed,
         },

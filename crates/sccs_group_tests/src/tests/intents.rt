@@ -1,4 +1,4 @@
-use sccs_intents::{Entry, Fate, IntentFault, intent_text, read_intent};
+use sccs_intents::{Fate, IntentEntry, IntentFault, intent_text, read_intent};
 use std::alloc::Global;
 use std::test::Fail;
 
@@ -6,7 +6,7 @@ use std::test::Fail;
 const TWO: &[u8] = b"sccs group 1\nr s.a\nd s.c\nend\n";
 
 // whether an entry has a name and a fate
-fn is_so(entry: &Entry, name: &[u8], fate: Fate) -> bool {
+fn is_so(entry: &IntentEntry, name: &[u8], fate: Fate) -> bool {
     (entry.name.bytes() == name) & (entry.fate == fate)
 }
 

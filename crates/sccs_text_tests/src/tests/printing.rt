@@ -1,5 +1,5 @@
 ghost use Rattle.std.specs.Prelude.{◌≡◌, IfOk, IfSome};
-ghost use Rattle.sccs_base.specs.Name.{IsSfile};
+ghost use Rattle.sccs_base.specs.Name.{IsSFileName};
 ghost use Rattle.sccs_disk.specs.MemoryDisks.{disk_call};
 ghost use Rattle.sccs_history.specs.History.{IsHeader};
 ghost use Rattle.sccs_keywords.specs.Expansion.{HasMoments};
@@ -177,7 +177,7 @@ fn made_on(
     form: &LineForm,
     mode: Mode,
 ) -> Result<Result<Shown, StepFault>, Fail>
-    requires sfile { IsSfile s_file.now }
+    requires sfile { IsSFileName s_file.now }
     requires facts { IfSome (line_form form.now).facts HasMoments }
 {
     let version = version_of(alloc, disk, 2)?;

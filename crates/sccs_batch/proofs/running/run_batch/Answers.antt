@@ -5,7 +5,7 @@ use Rattle.sccs_operands.specs.InputNames.{GivesLines}
 use Rattle.sccs_steps.specs.Calls.{scene}
 use Rattle.sccs_steps.specs.Settings.{setting_of}
 use Rattle.sccs_steps.specs.declared.faults.Fault.TheVariants as ends
-use Rattle.sccs_batch.proofs.BatchCourses.{batch_never, batch_ran, batch_refused, refused_causes, unread_causes}
+use Rattle.sccs_batch.proofs.BatchStepLists.{batch_never, batch_ran, batch_refused, refused_causes, unread_causes}
 use Rattle.sccs_batch.proofs.running.run_batch.Goals as goal
 
 pub returns-in-Ok : goal.returns-in-Ok

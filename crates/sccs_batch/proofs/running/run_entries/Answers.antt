@@ -5,7 +5,7 @@ use Rattle.sccs_step_lists.specs.QuietSettings.{quiet}
 use Rattle.sccs_steps.specs.declared.faults.Fault.{Fault}
 use Rattle.sccs_batch.specs.BatchText.{batch_of}
 use Rattle.sccs_batch.specs.Batches.{NextEnds}
-use Rattle.sccs_batch.proofs.EntryCourses.{reaches_end, reaches_line, reaches_on, within_on}
+use Rattle.sccs_batch.proofs.EntryStepLists.{reaches_end, reaches_line, reaches_on, within_on}
 use Rattle.sccs_batch.proofs.running.run_entries.Goals as goal
 
 pub entries-init : goal.entries-init

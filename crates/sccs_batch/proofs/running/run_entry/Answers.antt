@@ -5,7 +5,7 @@ use Rattle.sccs_steps.proofs.Exits.{exit_is}
 use Rattle.sccs_steps.specs.declared.faults.Fault.{Fault}
 use Rattle.sccs_steps.specs.declared.faults.Fault.TheVariants as ends
 use Rattle.sccs_batch.specs.Batches.{RunsEntry}
-use Rattle.sccs_batch.proofs.EntryCourses.{cut_out, entry_cut, entry_said, wrote_out}
+use Rattle.sccs_batch.proofs.EntryStepLists.{cut_out, entry_cut, entry_said, wrote_out}
 use Rattle.sccs_batch.proofs.running.run_entry.Goals as goal
 
 pub returns-in_err-status : goal.returns-in_err-status

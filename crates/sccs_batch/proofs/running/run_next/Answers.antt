@@ -1,7 +1,7 @@
 use Rattle.std.proofs.Common.{rules, [], refl, sym, ◌∙◌}
 use Rattle.sccs_base.proofs.Gifts.{gives_none, some_none}
 use Rattle.sccs_step_lists.specs.QuietSettings.{quiet}
-use Rattle.sccs_batch.proofs.EntryCourses.{cut_err, next_bad, next_cut, next_never, next_run, next_unsaid, wrote_err}
+use Rattle.sccs_batch.proofs.EntryStepLists.{cut_err, next_bad, next_cut, next_never, next_run, next_unsaid, wrote_err}
 use Rattle.sccs_batch.proofs.running.run_next.Goals as goal
 
 pub returns-in_default-clause-run : goal.returns-in_default-clause-run

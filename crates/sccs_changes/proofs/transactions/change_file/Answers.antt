@@ -51,25 +51,25 @@ returns-in-Err-clause-causes g c =
 pub prepare-requires-clause-locked : goal.prepare-requires-clause-locked
 prepare-requires-clause-locked g c = made_there (z_file c.args.name.now) empty_file (g.D.Disk.told c.args.disk.now) (g.D.Disk.told c.lock.new.disk) c.in-Ok.ensures.view
 
-pub returns-in-Err-Locked-clause-moments : goal.returns-in-Err-Locked-clause-moments
-returns-in-Err-Locked-clause-moments g c = λ m past i is heard calm safe.
+pub returns-in-Err-Locked-clause-crash_points : goal.returns-in-Err-Locked-clause-crash_points
+returns-in-Err-Locked-clause-crash_points g c = λ m past i is heard calm safe.
     at_locked (g.C.Change.change c.args.change.now) c.args.name.now _ _ _ _ _ m past i (c.lock.ensures.same (c.in-Err-Locked.is ∙ ap Err c.in-Err-Locked.field-0-is)) (c.lock.ensures.locked (c.in-Err-Locked.is ∙ ap Err c.in-Err-Locked.field-0-is)) is heard calm safe
 
-pub returns-in-Err-Failed-clause-moments : goal.returns-in-Err-Failed-clause-moments
-returns-in-Err-Failed-clause-moments g c = λ m past i is heard calm safe.
+pub returns-in-Err-Failed-clause-crash_points : goal.returns-in-Err-Failed-clause-crash_points
+returns-in-Err-Failed-clause-crash_points g c = λ m past i is heard calm safe.
     at_failed (g.C.Change.change c.args.change.now) c.args.name.now _ _ _ _ _ m past i c.requires c.in-Err-Failed.ensures.view_err c.lock.ensures.touches (c.lock.ensures.held (c.in-Err-Failed.is ∙ ap Err c.in-Err-Failed.field-0-is)) is heard calm (safe refl).sound
 
-pub returns-in-Err-Memory-clause-moments : goal.returns-in-Err-Memory-clause-moments
-returns-in-Err-Memory-clause-moments g c = λ m past i is heard calm safe.
+pub returns-in-Err-Memory-clause-crash_points : goal.returns-in-Err-Memory-clause-crash_points
+returns-in-Err-Memory-clause-crash_points g c = λ m past i is heard calm safe.
     at_memory (g.C.Change.change c.args.change.now) c.args.name.now _ _ _ _ _ m past i (c.lock.ensures.memory (c.in-Err-Memory.is ∙ ap Err c.in-Err-Memory.field-0-is)) is heard calm
 
-pub returns-in-Ok-prepare-clause-moments : goal.returns-in-Ok-prepare-clause-moments
-returns-in-Ok-prepare-clause-moments g c = λ m past i is heard calm safe.
+pub returns-in-Ok-prepare-clause-crash_points : goal.returns-in-Ok-prepare-clause-crash_points
+returns-in-Ok-prepare-clause-crash_points g c = λ m past i is heard calm safe.
     at_finished (g.C.Change.change c.args.change.now) c.in-Ok-prepare.prepared c.finish.result c.prepare.result c.args.name.now _ _ (g.D.Disk.told c.lock.new.disk) (g.D.Disk.told c.prepare.new.disk) _ _ _ _ (g.E.Sink.given c.args.err.now) _ m past i c.requires c.in-Ok-prepare.is c.in-Ok.ensures.view c.in-Ok.ensures.free (c.prepare.ensures.prepares (g.E.Sink.given c.args.err.now)) c.finish.ensures.finishes c.finish.ensures.commits
     c.lock.ensures.touches c.prepare.ensures.touches c.in-Ok-prepare.ensures.firm c.in-Ok-prepare.ensures.entries is heard calm (safe refl)
 
-pub returns-in-Err-clause-moments : goal.returns-in-Err-clause-moments
-returns-in-Err-clause-moments g c = λ m past i is heard calm safe.
+pub returns-in-Err-clause-crash_points : goal.returns-in-Err-clause-crash_points
+returns-in-Err-clause-crash_points g c = λ m past i is heard calm safe.
     at_given_up (g.C.Change.change c.args.change.now) c.in-Err.fault c.give_up.result c.prepare.result c.args.name.now _ _ (g.D.Disk.told c.lock.new.disk) (g.D.Disk.told c.prepare.new.disk) _ _ _ (g.E.Sink.given c.args.err.now) m past i c.requires c.in-Err.is c.in-Ok.ensures.view c.in-Ok.ensures.free (c.prepare.ensures.prepares (g.E.Sink.given c.args.err.now)) (c.give_up.ensures.gives_up (g.O.Sink.given c.prepare.new.out) (g.E.Sink.given c.args.err.now))
     c.lock.ensures.touches c.prepare.ensures.touches c.give_up.ensures.touches is heard calm (safe refl)
 

@@ -1,6 +1,6 @@
 use Rattle.sccs_group_command.proofs.OtherFiles.{members_others, memory_others}
 use Rattle.sccs_group_command.proofs.Halves.{half_committed}
-use Rattle.sccs_group_command.proofs.Wholes.{ends_by, memory_moments, plan_loses, stops_by}
+use Rattle.sccs_group_command.proofs.Wholes.{ends_by, memory_crash_points, plan_loses, stops_by}
 use Rattle.std.proofs.Common.{Err, ap, refl, ◌∙◌}
 use Rattle.sccs_group.proofs.GroupEnds.{commit_failed, commit_memory}
 use Rattle.sccs_group_command.specs.Preparing.{made_names}
@@ -28,15 +28,15 @@ pub returns-in-Err-Memory-clause-told : goal.returns-in-Err-Memory-clause-told
 returns-in-Err-Memory-clause-told g c =
     memory_committed c.abandon_all.result (made_names c.args.made.now) c.args.joint.now.members _ _ _ (commit_memory c.commit_group.result c.args.joint.now.members _ _ (c.in-Err-Memory.is ∙ ap Err c.in-Err-Memory.field-0-is) c.commit_group.ensures.ends).view c.abandon_all.ensures.gives_back
 
-pub returns-in-Ok-clause-moments : goal.returns-in-Ok-clause-moments
-returns-in-Ok-clause-moments g c = ends_by c.args.made.now _ _ _ (c.requires.members) c.in-Ok.ensures.ends.ends
+pub returns-in-Ok-clause-crash_points : goal.returns-in-Ok-clause-crash_points
+returns-in-Ok-clause-crash_points g c = ends_by c.args.made.now _ _ _ (c.requires.members) c.in-Ok.ensures.ends.ends
 
-pub returns-in-Err-Failed-clause-moments : goal.returns-in-Err-Failed-clause-moments
-returns-in-Err-Failed-clause-moments g c = stops_by c.args.made.now _ _ _ (c.requires.members) (commit_failed c.commit_group.result c.args.joint.now.members _ _ (c.in-Err-Failed.is ∙ ap Err c.in-Err-Failed.field-0-is) c.commit_group.ensures.ends).stops
+pub returns-in-Err-Failed-clause-crash_points : goal.returns-in-Err-Failed-clause-crash_points
+returns-in-Err-Failed-clause-crash_points g c = stops_by c.args.made.now _ _ _ (c.requires.members) (commit_failed c.commit_group.result c.args.joint.now.members _ _ (c.in-Err-Failed.is ∙ ap Err c.in-Err-Failed.field-0-is) c.commit_group.ensures.ends).stops
 
-pub returns-in-Err-Memory-clause-moments : goal.returns-in-Err-Memory-clause-moments
-returns-in-Err-Memory-clause-moments g c =
-    memory_moments c.abandon_all.result (made_names c.args.made.now) c.args.made.now _ _ _ _ c.abandon_all.ensures.gives_back
+pub returns-in-Err-Memory-clause-crash_points : goal.returns-in-Err-Memory-clause-crash_points
+returns-in-Err-Memory-clause-crash_points g c =
+    memory_crash_points c.abandon_all.result (made_names c.args.made.now) c.args.made.now _ _ _ _ c.abandon_all.ensures.gives_back
     (plan_loses (made_names c.args.made.now) _ (g.D.Disk.told c.commit_group.new.disk) _ c.requires.may.names (commit_memory c.commit_group.result c.args.joint.now.members _ _ (c.in-Err-Memory.is ∙ ap Err c.in-Err-Memory.field-0-is) c.commit_group.ensures.ends).touches c.abandon_all.ensures.before)
 
 pub returns-in-Err-Failed-clause-told : goal.returns-in-Err-Failed-clause-told

@@ -1,4 +1,4 @@
-use Rattle.sccs_group_command.proofs.Wholes.{reported_moments}
+use Rattle.sccs_group_command.proofs.Wholes.{reported_crash_points}
 use Rattle.std.proofs.Common.{refl}
 use Rattle.sccs_disk.specs.Told.{seen}
 use Rattle.sccs_changes.proofs.ChangeCauses.{finish_causes}
@@ -25,11 +25,11 @@ returns-in-Err-clause-told g c = cut_commit c.in-Err.fault c.args.made.now c.arg
 pub returns-in-Err-clause-causes : goal.returns-in-Err-clause-causes
 returns-in-Err-clause-causes g c = commit_causes g.D.Disk.faults _ _ c.commit_joint.result _ c.in-Err.fault _ _ c.in-Err.is refl c.commit_joint.ensures.causes
 
-pub returns-in-Ok-clause-moments : goal.returns-in-Ok-clause-moments
-returns-in-Ok-clause-moments g c = reported_moments c.report.result c.args.joint.now.said c.args.made.now _ _ _ _ (c.report.ensures.reports (seen (g.D.Disk.told c.commit_joint.new.disk))) c.in-Ok.ensures.moments
+pub returns-in-Ok-clause-crash_points : goal.returns-in-Ok-clause-crash_points
+returns-in-Ok-clause-crash_points g c = reported_crash_points c.report.result c.args.joint.now.said c.args.made.now _ _ _ _ (c.report.ensures.reports (seen (g.D.Disk.told c.commit_joint.new.disk))) c.in-Ok.ensures.crash_points
 
-pub returns-in-Err-clause-moments : goal.returns-in-Err-clause-moments
-returns-in-Err-clause-moments g c = c.in-Err.ensures.moments
+pub returns-in-Err-clause-crash_points : goal.returns-in-Err-clause-crash_points
+returns-in-Err-clause-crash_points g c = c.in-Err.ensures.crash_points
 
 pub returns-in-Ok-clause-others : goal.returns-in-Ok-clause-others
 returns-in-Ok-clause-others g c = c.commit_joint.ensures.others

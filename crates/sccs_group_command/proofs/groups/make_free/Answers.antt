@@ -1,11 +1,11 @@
 use Rattle.sccs_group_command.specs.GroupStep.{names_of}
 use Rattle.sccs_group_command.proofs.OtherFiles.{free_others, free_unlocked, left_others, left_unlocked}
-use Rattle.sccs_group_command.proofs.Wholes.{before_holds, done_moments, failed_moments, stopped_moments}
+use Rattle.sccs_group_command.proofs.Wholes.{before_holds, done_crash_points, failed_crash_points, stopped_crash_points}
 use Rattle.std.proofs.Common.{List, Ok, Err, refl, sym, subst}
 use Rattle.std.proofs.lemmas.Result.{err_from_is_err_and}
 use Rattle.sccs_disk.specs.Told.{seen}
 use Rattle.sccs_steps.specs.Calls.{world}
-use Rattle.sccs_group_command.specs.Making.{CommitMoments, Finishes, MayCommit}
+use Rattle.sccs_group_command.specs.Making.{CommitCrashPoints, Finishes, MayCommit}
 use Rattle.sccs_group_command.specs.declared.prepared_entries.PreparedEntry.{PreparedEntry}
 use Rattle.sccs_group_command.proofs.GroupEnds.{finished_group, of_group, stopped_group, unfinished_group}
 use Rattle.sccs_group_command.specs.Preparing.{sfiles_of}
@@ -33,22 +33,22 @@ returns-in_err-made-clause-told g c =
     rw (p.1, p.2) (λ plain.
     stopped_group c.args.stamp.now c.args.entries.now (sfiles_of (names_of c.args.entries.now)) c.in_err-made.field-0.0.name c.in_err-made.field-0.0.fault _ _ _ _ (c.in_err-made.ensures.causes.read c.in_err-made.field-0.0 refl) (c.in_err-made.ensures.causes.write c.in_err-made.field-0.0 refl) c.requires.none (c.in_err-made.ensures.told plain))
 
-pub returns-in-Ok-clause-moments : goal.returns-in-Ok-clause-moments
-returns-in-Ok-clause-moments g c = λ plain.
-    done_moments c.args.stamp.now c.args.entries.now c.in_ok-made.made _ (g.D.Disk.told c.prepare_all.new.disk) _ tt
+pub returns-in-Ok-clause-crash_points : goal.returns-in-Ok-clause-crash_points
+returns-in-Ok-clause-crash_points g c = λ plain.
+    done_crash_points c.args.stamp.now c.args.entries.now c.in_ok-made.made _ (g.D.Disk.told c.prepare_all.new.disk) _ tt
     (record { grouped = c.requires.entries; plain = plain; none = c.requires.none; told = c.in_ok-made.ensures.told plain; made_are = c.in_ok-made.ensures.made; before = c.prepare_all.ensures.before plain })
-    (subst (λ (made : List PreparedEntry). CommitMoments (Ok tt) made (g.D.Disk.told c.prepare_all.new.disk) (g.D.Disk.told c.finish.new.disk)) c.items.ensures c.in-Ok.ensures.moments)
+    (subst (λ (made : List PreparedEntry). CommitCrashPoints (Ok tt) made (g.D.Disk.told c.prepare_all.new.disk) (g.D.Disk.told c.finish.new.disk)) c.items.ensures c.in-Ok.ensures.crash_points)
 
-pub returns-clause-moments : goal.returns-clause-moments
-returns-clause-moments g c = λ plain.
-    failed_moments c.args.stamp.now c.args.entries.now c.in_ok-made.made _ (g.D.Disk.told c.prepare_all.new.disk) _ c.own_name.result c.in-Err.fault
+pub returns-clause-crash_points : goal.returns-clause-crash_points
+returns-clause-crash_points g c = λ plain.
+    failed_crash_points c.args.stamp.now c.args.entries.now c.in_ok-made.made _ (g.D.Disk.told c.prepare_all.new.disk) _ c.own_name.result c.in-Err.fault
     (record { grouped = c.requires.entries; plain = plain; none = c.requires.none; told = c.in_ok-made.ensures.told plain; made_are = c.in_ok-made.ensures.made; before = c.prepare_all.ensures.before plain })
-    (subst (λ (made : List PreparedEntry). CommitMoments (Err c.in-Err.fault) made (g.D.Disk.told c.prepare_all.new.disk) (g.D.Disk.told c.finish.new.disk)) c.items.ensures c.in-Err.ensures.moments)
+    (subst (λ (made : List PreparedEntry). CommitCrashPoints (Err c.in-Err.fault) made (g.D.Disk.told c.prepare_all.new.disk) (g.D.Disk.told c.finish.new.disk)) c.items.ensures c.in-Err.ensures.crash_points)
 
-pub returns-in_err-made-clause-moments : goal.returns-in_err-made-clause-moments
-returns-in_err-made-clause-moments g c =
+pub returns-in_err-made-clause-crash_points : goal.returns-in_err-made-clause-crash_points
+returns-in_err-made-clause-crash_points g c =
     let p = err_from_is_err_and c.from_residual.result c.from_residual.ensures.1 in
-    rw (p.1, p.2) (λ plain. stopped_moments c.in_err-made.field-0.0 (names_of c.args.entries.now) (of_group c.args.stamp.now c.args.entries.now) _ _ (c.in_err-made.ensures.causes.write c.in_err-made.field-0.0 refl) (before_holds _ _ (names_of c.args.entries.now) c.requires.none (c.prepare_all.ensures.before plain)) (c.prepare_all.ensures.before plain))
+    rw (p.1, p.2) (λ plain. stopped_crash_points c.in_err-made.field-0.0 (names_of c.args.entries.now) (of_group c.args.stamp.now c.args.entries.now) _ _ (c.in_err-made.ensures.causes.write c.in_err-made.field-0.0 refl) (before_holds _ _ (names_of c.args.entries.now) c.requires.none (c.prepare_all.ensures.before plain)) (c.prepare_all.ensures.before plain))
 
 pub returns-in-Ok-clause-others : goal.returns-in-Ok-clause-others
 returns-in-Ok-clause-others g c = free_others c.in_ok-made.made _ (names_of c.args.entries.now) _ (g.D.Disk.told c.prepare_all.new.disk) _ c.items.ensures c.in_ok-made.ensures.made.names_are c.prepare_all.ensures.touches c.finish.ensures.others

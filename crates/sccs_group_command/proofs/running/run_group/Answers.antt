@@ -5,8 +5,8 @@ use Rattle.sccs_operands.specs.InputNames.{GivesLines}
 use Rattle.sccs_steps.specs.Calls.{scene}
 use Rattle.sccs_steps.specs.Settings.{setting_of}
 use Rattle.sccs_steps.specs.declared.faults.Fault.TheVariants as ends
-use Rattle.sccs_batch.proofs.BatchCourses.{refused_causes, unread_causes}
-use Rattle.sccs_group_command.proofs.GroupCourses.{group_never, group_ran, group_refused}
+use Rattle.sccs_batch.proofs.BatchStepLists.{refused_causes, unread_causes}
+use Rattle.sccs_group_command.proofs.GroupStepLists.{group_never, group_ran, group_refused}
 use Rattle.sccs_group_command.proofs.running.run_group.Goals as goal
 
 pub returns-in-Ok : goal.returns-in-Ok

@@ -4,7 +4,7 @@ use Rattle.sccs_steps.specs.Calls.{scene}
 use Rattle.sccs_group_command.specs.GroupText.{group_of}
 use Rattle.sccs_group_command.specs.Preparing.{AreGrouped}
 use Rattle.sccs_group_command.proofs.GroupedEntries.{read_grouped}
-use Rattle.sccs_group_command.proofs.GroupCourses.{lines_ran, lines_refused}
+use Rattle.sccs_group_command.proofs.GroupStepLists.{lines_ran, lines_refused}
 use Rattle.sccs_group_command.proofs.running.run_lines.Goals as goal
 
 pub run_entries-requires-clause-entries : goal.run_entries-requires-clause-entries

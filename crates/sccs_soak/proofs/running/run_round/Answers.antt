@@ -3,7 +3,7 @@ use Rattle.sccs_step_lists.specs.QuietSettings.{quiet}
 use Rattle.sccs_steps.specs.declared.faults.Fault.{Fault}
 use Rattle.sccs_soak.specs.Commands.{delta_command, edit_command}
 use Rattle.sccs_soak.specs.Runs.{RunsSoaked}
-use Rattle.sccs_soak.proofs.SoakCourses.{other_ends, round_made, soak_cut, soak_ends}
+use Rattle.sccs_soak.proofs.SoakStepLists.{other_ends, round_made, soak_cut, soak_ends}
 use Rattle.sccs_soak.proofs.running.run_round.Goals as goal
 
 pub returns-in-Err : goal.returns-in-Err

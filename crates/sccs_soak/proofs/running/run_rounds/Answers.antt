@@ -4,7 +4,7 @@ use Rattle.sccs_steps.specs.declared.faults.Fault.{Fault}
 use Rattle.sccs_soak.specs.Commands.{rounds_from}
 use Rattle.sccs_soak.specs.Runs.{LeadsSoak, RunsRound}
 use Rattle.sccs_soak.specs.Turns.{lines_after}
-use Rattle.sccs_soak.proofs.SoakCourses.{leads_cut, leads_end, leads_on, leads_stop, lines_most, none_left, round_first}
+use Rattle.sccs_soak.proofs.SoakStepLists.{leads_cut, leads_end, leads_on, leads_stop, lines_most, none_left, round_first}
 use Rattle.sccs_soak.proofs.running.run_rounds.Goals as goal
 
 pub returns-in-Err : goal.returns-in-Err

@@ -3,7 +3,7 @@ use Rattle.sccs_step_lists.specs.QuietSettings.{quiet}
 use Rattle.sccs_steps.specs.declared.faults.Fault.{Fault}
 use Rattle.sccs_soak.specs.Commands.{first_command, rounds_from}
 use Rattle.sccs_soak.specs.Runs.{RunsSoaked}
-use Rattle.sccs_soak.proofs.SoakCourses.{soak_cut, soak_ends, soak_on}
+use Rattle.sccs_soak.proofs.SoakStepLists.{soak_cut, soak_ends, soak_on}
 use Rattle.sccs_soak.proofs.running.run_soak.Goals as goal
 
 pub returns-in-Err : goal.returns-in-Err

@@ -6,10 +6,10 @@ pub returns-clause-spares : goal.returns-clause-spares
 returns-clause-spares c = spares_in
 
 pub returns-clause-makes : goal.returns-clause-makes
-returns-clause-makes c = λ course given r a b makes. own_makes course (Passes given) r a b makes
+returns-clause-makes c = λ step_list given r a b makes. own_makes step_list (Passes given) r a b makes
 
 pub returns-clause-stops : goal.returns-clause-stops
-returns-clause-stops c = λ course given r a b stops. own_stops course (Passes given) r a b stops
+returns-clause-stops c = λ step_list given r a b stops. own_stops step_list (Passes given) r a b stops
 
 pub returns-clause-unlocked : goal.returns-clause-unlocked
-returns-clause-unlocked c = λ course given old new unlocked. own_unlocked course (Passes given) old new unlocked
+returns-clause-unlocked c = λ step_list given old new unlocked. own_unlocked step_list (Passes given) old new unlocked

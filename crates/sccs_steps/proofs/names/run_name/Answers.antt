@@ -32,7 +32,7 @@ returns-clause-run g c = record {
   stops =
       stepped_stops (g.U.UtilityWithStatus.action c.args.utility.now) c.args.name.now c.in-Some.file c.step-made.result _ (g.I.Source.left c.args.streams.now.input.now)
       (setting g.I.Source g.O.Sink g.E.Sink g.D.Disk c.args.streams.now).stage (scene (g.D.Disk.told c.step-made.new.disk) (g.O.Sink.given c.step-made.new.out) (g.E.Sink.given c.step-made.new.err)) _
-      (g.U.UtilityWithStatus.keeps c.args.utility.now) (sym c.in-Some.ensures.exact) c.in-Some.ensures.found c.step-made.ensures.reads c.step-made.ensures.moments c.step-made.ensures.others c.conclude-2.ensures.concludes;
+      (g.U.UtilityWithStatus.keeps c.args.utility.now) (sym c.in-Some.ensures.exact) c.in-Some.ensures.found c.step-made.ensures.reads c.step-made.ensures.crash_points c.step-made.ensures.others c.conclude-2.ensures.concludes;
   unlocked =
       one_unlocked (g.U.UtilityWithStatus.action c.args.utility.now) c.args.name.now c.in-Some.file (IsHeard (g.U.UtilityWithStatus.action c.args.utility.now).takes (g.I.Source.left c.args.streams.now.input.now)) _ _ (g.U.UtilityWithStatus.keeps c.args.utility.now) (sym c.in-Some.ensures.exact) c.in-Some.ensures.found c.step-made.ensures.reads c.step-made.ensures.unlocked c.step-made.ensures.others;
   recovers =

@@ -3,7 +3,7 @@ use Rattle.sccs_sid.specs.Refusal.{number_of}
 use Rattle.sccs_sid.specs.declared.refusals.Refusal.TheVariants as refusals
 use Rattle.sccs_steps.specs.Actions.{IsHeard}
 use Rattle.sccs_steps.proofs.NameLaws.{step_speaks}
-use Rattle.sccs_steps.proofs.ReadingMoments.{quiet_speaks}
+use Rattle.sccs_steps.proofs.ReadingCrashPoints.{quiet_speaks}
 use Rattle.sccs_steps.proofs.UnlockedSteps.{none_unlocked}
 use Rattle.sccs_val.specs.Reports.{takes_lines}
 use Rattle.sccs_val.specs.ValStep.{val_action, val_steps}

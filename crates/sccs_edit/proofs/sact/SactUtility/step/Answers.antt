@@ -1,7 +1,7 @@
 use Rattle.std.proofs.lemmas.Result.{err_from_is_err_and}
 use Rattle.std.proofs.Common.{refl}
 use Rattle.sccs_steps.specs.Calls.{scene}
-use Rattle.sccs_steps.proofs.ReadingMoments.{reading_moments}
+use Rattle.sccs_steps.proofs.ReadingCrashPoints.{reading_crash_points}
 use Rattle.sccs_steps.proofs.UnlockedSteps.{unlocked_reading}
 use Rattle.sccs_changes.proofs.UnlockedChanges.{others_refused}
 use Rattle.sccs_changes.specs.Utilities.{is_sfile}
@@ -33,14 +33,14 @@ returns-in_err-edits-clause-speaks g c =
     let p = err_from_is_err_and c.from_residual.result c.from_residual.ensures.1 in
     rw (p.1, p.2) (unread_speaks c.in_err-edits.field-0.0 c.args.name.now _ (within_err sact_checks c.in_err-edits.field-0.0 c.in_err-edits.ensures.checks))
 
-pub returns-clause-moments : goal.returns-clause-moments
-returns-clause-moments g c =
-    reading_moments (sact_action c.args.self.now.heading) c.show.result c.args.name.now (g.I.Source.left c.args._input.now) (scene (g.D.Disk.told c.args.disk.now) (g.O.Sink.given c.args.out.now) (g.E.Sink.given c.args.err.now)) (scene (g.D.Disk.told c.find_edits.new.disk) (g.O.Sink.given c.show.new.out) (g.E.Sink.given c.show.new.err))
+pub returns-clause-crash_points : goal.returns-clause-crash_points
+returns-clause-crash_points g c =
+    reading_crash_points (sact_action c.args.self.now.heading) c.show.result c.args.name.now (g.I.Source.left c.args._input.now) (scene (g.D.Disk.told c.args.disk.now) (g.O.Sink.given c.args.out.now) (g.E.Sink.given c.args.err.now)) (scene (g.D.Disk.told c.find_edits.new.disk) (g.O.Sink.given c.show.new.out) (g.E.Sink.given c.show.new.err))
     (sact_keeps c.args.self.now.heading) refl c.find_edits.ensures.frame.same (returns-clause-step g c)
 
-pub returns-in_err-edits-clause-moments : goal.returns-in_err-edits-clause-moments
-returns-in_err-edits-clause-moments g c =
-    reading_moments (sact_action c.args.self.now.heading) c.from_residual.result c.args.name.now (g.I.Source.left c.args._input.now) (scene (g.D.Disk.told c.args.disk.now) (g.O.Sink.given c.args.out.now) (g.E.Sink.given c.args.err.now)) (scene (g.D.Disk.told c.find_edits.new.disk) (g.O.Sink.given c.args.out.now) (g.E.Sink.given c.args.err.now))
+pub returns-in_err-edits-clause-crash_points : goal.returns-in_err-edits-clause-crash_points
+returns-in_err-edits-clause-crash_points g c =
+    reading_crash_points (sact_action c.args.self.now.heading) c.from_residual.result c.args.name.now (g.I.Source.left c.args._input.now) (scene (g.D.Disk.told c.args.disk.now) (g.O.Sink.given c.args.out.now) (g.E.Sink.given c.args.err.now)) (scene (g.D.Disk.told c.find_edits.new.disk) (g.O.Sink.given c.args.out.now) (g.E.Sink.given c.args.err.now))
     (sact_keeps c.args.self.now.heading) refl c.find_edits.ensures.frame.same (returns-in_err-edits-clause-step g c)
 
 pub returns-clause-unlocked : goal.returns-clause-unlocked

@@ -2,7 +2,7 @@ use Rattle.std.proofs.Common.{Bool, subst}
 use Rattle.sccs_base.specs.NameSets.{names_in}
 use Rattle.sccs_recovery.specs.Commands.{Says}
 use Rattle.sccs_recovery.specs.RecoverStep.{found_text, freed_by}
-use Rattle.sccs_recovery.proofs.RecoverMoments.{fault_moments, fault_recovers, made_moments, made_recovers, pending_named}
+use Rattle.sccs_recovery.proofs.RecoverCrashPoints.{fault_crash_points, fault_recovers, made_crash_points, made_recovers, pending_named}
 use Rattle.sccs_recovery.proofs.RecoveryEnds.{fault_causes, fault_speaks, fault_steps, faults_of, is_sfile, made_steps, say_causes, say_speaks}
 use Rattle.sccs_recovery.proofs.commands.RecoverUtility.step.Goals as goal
 
@@ -30,14 +30,14 @@ returns-in-Err-clause-speaks g c = fault_speaks c.in-Err.fault c.args.name.now _
 pub returns-in-Err-clause-causes : goal.returns-in-Err-clause-causes
 returns-in-Err-clause-causes g c = fault_causes c.in-Err.fault _ _ _ _ _ c.recover_free.ensures.ends.later c.in-Err.ensures.ends.within c.in-Err.ensures.ends.cause
 
-pub returns-in-Ok-clause-moments : goal.returns-in-Ok-clause-moments
-returns-in-Ok-clause-moments g c =
-    made_moments (freed_by (names_in c.args.self.now.freed.now)) c.args.name.now c.in-Ok.found c.say.result (g.D.Disk.told c.args.disk.now) (g.D.Disk.told c.recover_free.new.disk) (g.I.Source.left c.args._input.now) (g.O.Sink.given c.args.out.now) _ (g.E.Sink.given c.args._err.now) (is_sfile c.args.name.now c.requires) c.in-Ok.ensures.ends.view c.in-Ok.ensures.clean c.in-Ok.ensures.checks (subst (λ (z : Bool). Says c.say.result (found_text c.args.name.now z) (g.O.Sink.given c.args.out.now) (g.O.Sink.given c.say.new.out)) c.was_locked.ensures c.say.ensures.says)
+pub returns-in-Ok-clause-crash_points : goal.returns-in-Ok-clause-crash_points
+returns-in-Ok-clause-crash_points g c =
+    made_crash_points (freed_by (names_in c.args.self.now.freed.now)) c.args.name.now c.in-Ok.found c.say.result (g.D.Disk.told c.args.disk.now) (g.D.Disk.told c.recover_free.new.disk) (g.I.Source.left c.args._input.now) (g.O.Sink.given c.args.out.now) _ (g.E.Sink.given c.args._err.now) (is_sfile c.args.name.now c.requires) c.in-Ok.ensures.ends.view c.in-Ok.ensures.clean c.in-Ok.ensures.checks (subst (λ (z : Bool). Says c.say.result (found_text c.args.name.now z) (g.O.Sink.given c.args.out.now) (g.O.Sink.given c.say.new.out)) c.was_locked.ensures c.say.ensures.says)
     c.recover_free.ensures.ends.story c.in-Ok.ensures.ends.calm
 
-pub returns-in-Err-clause-moments : goal.returns-in-Err-clause-moments
-returns-in-Err-clause-moments g c =
-    fault_moments (freed_by (names_in c.args.self.now.freed.now)) c.args.name.now c.in-Err.fault (g.D.Disk.told c.args.disk.now) (g.D.Disk.told c.recover_free.new.disk) (g.I.Source.left c.args._input.now) (g.O.Sink.given c.args.out.now) (g.E.Sink.given c.args._err.now) (is_sfile c.args.name.now c.requires)
+pub returns-in-Err-clause-crash_points : goal.returns-in-Err-clause-crash_points
+returns-in-Err-clause-crash_points g c =
+    fault_crash_points (freed_by (names_in c.args.self.now.freed.now)) c.args.name.now c.in-Err.fault (g.D.Disk.told c.args.disk.now) (g.D.Disk.told c.recover_free.new.disk) (g.I.Source.left c.args._input.now) (g.O.Sink.given c.args.out.now) (g.E.Sink.given c.args._err.now) (is_sfile c.args.name.now c.requires)
     (faults_of c.args.name.now c.in-Err.fault (g.D.Disk.told c.args.disk.now) (g.D.Disk.told c.recover_free.new.disk) _ _ c.in-Err.ensures.checks c.in-Err.ensures.pending c.in-Err.ensures.ends)
     c.recover_free.ensures.ends.story c.recover_free.ensures.ends.firm c.in-Err.ensures.ends.touches
 

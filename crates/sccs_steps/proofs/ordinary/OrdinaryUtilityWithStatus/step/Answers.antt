@@ -3,16 +3,16 @@ use Rattle.sccs_sid.specs.declared.refusals.StepFault.{StepFault}
 use Rattle.sccs_steps.specs.Calls.{scene}
 use Rattle.sccs_steps.specs.Ordinaries.{ordinary}
 use Rattle.sccs_steps.specs.Recovering.{StepRecovers}
-use Rattle.sccs_steps.specs.StepStops.{StepMomentsAs}
-use Rattle.sccs_steps.proofs.OrdinaryLaws.{status_moments, status_recovers}
+use Rattle.sccs_steps.specs.StepStops.{StepCrashPointsAs}
+use Rattle.sccs_steps.proofs.OrdinaryLaws.{status_crash_points, status_recovers}
 use Rattle.sccs_steps.proofs.ordinary.OrdinaryUtilityWithStatus.step.Goals as goal
 
-pub returns-clause-moments : goal.returns-clause-moments
-returns-clause-moments g c =
-    subst (λ (r : Result ℕ StepFault). StepMomentsAs (λ (status : ℕ). status) (ordinary (g.U.Utility.action c.args.self.now.utility)) r c.args.name.now (g.I.Source.left c.args.input.now)
+pub returns-clause-crash_points : goal.returns-clause-crash_points
+returns-clause-crash_points g c =
+    subst (λ (r : Result ℕ StepFault). StepCrashPointsAs (λ (status : ℕ). status) (ordinary (g.U.Utility.action c.args.self.now.utility)) r c.args.name.now (g.I.Source.left c.args.input.now)
     (scene (g.D.Disk.told c.args.disk.now) (g.O.Sink.given c.args.out.now) (g.E.Sink.given c.args.err.now))
     (scene (g.D.Disk.told c.step-made.new.disk) (g.O.Sink.given c.step-made.new.out) (g.E.Sink.given c.step-made.new.err))) (sym c.with_status.ensures)
-    (status_moments (g.U.Utility.action c.args.self.now.utility) c.step-made.result c.args.name.now (g.I.Source.left c.args.input.now) _ _ c.step-made.ensures.moments)
+    (status_crash_points (g.U.Utility.action c.args.self.now.utility) c.step-made.result c.args.name.now (g.I.Source.left c.args.input.now) _ _ c.step-made.ensures.crash_points)
 
 pub returns-clause-recovers : goal.returns-clause-recovers
 returns-clause-recovers g c =

@@ -2,7 +2,7 @@ use Rattle.std.proofs.lemmas.Result.{err_from_is_err_and}
 use Rattle.std.proofs.Common.{ℕ, Ok, Err, refl, sym, subst}
 use Rattle.sccs_steps.specs.Actions.{SteppedAs}
 use Rattle.sccs_steps.specs.Calls.{scene}
-use Rattle.sccs_steps.proofs.ReadingMoments.{quiet_speaks, reading_moments_as}
+use Rattle.sccs_steps.proofs.ReadingCrashPoints.{quiet_speaks, reading_crash_points_as}
 use Rattle.sccs_what.specs.Checks.{what_keeps}
 use Rattle.sccs_what.specs.WhatStep.{what_action, what_checks}
 use Rattle.sccs_what.proofs.ActionLaws.{code_within, fault_within, status_stepped}
@@ -22,16 +22,16 @@ returns-in_err-found-clause-step g c =
     rw (p.1, p.2) (status_stepped c.args.self.now.first c.args.name.now (Err c.in_err-found.field-0.0) (g.D.Disk.told c.args.disk.now) (g.D.Disk.told c.what.new.disk) (g.I.Source.left c.args._input.now)
     (g.O.Sink.given c.args.out.now) (g.O.Sink.given c.what.new.out) (g.E.Sink.given c.args._err.now) c.in_err-found.ensures.meets)
 
-pub returns-clause-moments : goal.returns-clause-moments
-returns-clause-moments g c =
-    reading_moments_as (λ (status : ℕ). status) (what_action c.args.self.now.first) (Ok c.found_status.result) c.args.name.now (g.I.Source.left c.args._input.now)
+pub returns-clause-crash_points : goal.returns-clause-crash_points
+returns-clause-crash_points g c =
+    reading_crash_points_as (λ (status : ℕ). status) (what_action c.args.self.now.first) (Ok c.found_status.result) c.args.name.now (g.I.Source.left c.args._input.now)
     (scene (g.D.Disk.told c.args.disk.now) (g.O.Sink.given c.args.out.now) (g.E.Sink.given c.args._err.now))
     (scene (g.D.Disk.told c.what.new.disk) (g.O.Sink.given c.what.new.out) (g.E.Sink.given c.args._err.now))
     (what_keeps c.args.self.now.first) refl c.in_ok-found.ensures.same (returns-clause-step g c)
 
-pub returns-in_err-found-clause-moments : goal.returns-in_err-found-clause-moments
-returns-in_err-found-clause-moments g c =
-    reading_moments_as (λ (status : ℕ). status) (what_action c.args.self.now.first) c.from_residual.result c.args.name.now (g.I.Source.left c.args._input.now)
+pub returns-in_err-found-clause-crash_points : goal.returns-in_err-found-clause-crash_points
+returns-in_err-found-clause-crash_points g c =
+    reading_crash_points_as (λ (status : ℕ). status) (what_action c.args.self.now.first) c.from_residual.result c.args.name.now (g.I.Source.left c.args._input.now)
     (scene (g.D.Disk.told c.args.disk.now) (g.O.Sink.given c.args.out.now) (g.E.Sink.given c.args._err.now))
     (scene (g.D.Disk.told c.what.new.disk) (g.O.Sink.given c.what.new.out) (g.E.Sink.given c.args._err.now))
     (what_keeps c.args.self.now.first) refl c.in_err-found.ensures.same (returns-in_err-found-clause-step g c)

@@ -1,4 +1,4 @@
--- The moments of lists of steps, one behind another.
+-- The crash points of lists of steps, one behind another.
 use Rattle.std.proofs.Common.{◌≡◌, ◌≢◌, ◌⊎◌, ℕ, suc, ◌+◌, ◌<◌, ◌≤◌, Bool, List, [], ◌∷◌, ◌++◌, length, Result, Ok, Err, inl, inr, refl, sym, ap, subst, ◌∙◌, ⊎_elim, arith, length-append}
 use Rattle.std.proofs.lemmas.Bool.{cases_lt}
 use Rattle.sccs_base.specs.Stream.{GivesSome}
@@ -10,7 +10,7 @@ use Rattle.sccs_name_files.specs.StepFiles.{Shows}
 use Rattle.sccs_name_files.specs.Touches.{Each, earlier, newest}
 use Rattle.sccs_name_files.proofs.Touched.{earlier_more, newest_more}
 use Rattle.sccs_crash_points.specs.Calm.{HasFirm, IsCalm}
-use Rattle.sccs_crash_points.specs.Moments.{Numbered, Went}
+use Rattle.sccs_crash_points.specs.CrashPoints.{Numbered, Went}
 use Rattle.sccs_crash_points.specs.Recovery.{RecoversAs}
 use Rattle.sccs_crash_points.proofs.CalmDisks.{calm_firm}
 use Rattle.sccs_crash_points.proofs.Joined.{guarded_joined, numbered_as, numbered_joined}
@@ -18,7 +18,7 @@ use Rattle.sccs_crash_points.proofs.Recovering.{recovers_then}
 use Rattle.sccs_steps.specs.Actions.{Action}
 use Rattle.sccs_steps.specs.Calls.{Scene, shown}
 use Rattle.sccs_steps.specs.StepLists.{NamedStep, Ran, err_of, folder_after, next_text, out_of}
-use Rattle.sccs_steps.specs.ListStops.{IsAcknowledged, IsAtNumber, KeepsSafe, KeepsSafeFrom, ListMoments, MayBegin, RunMoments, StaySafe, err_before, out_before, view_at}
+use Rattle.sccs_steps.specs.ListStops.{IsAcknowledged, IsAtNumber, KeepsSafe, KeepsSafeFrom, ListCrashPoints, MayBegin, RunCrashPoints, StaySafe, err_before, out_before, view_at}
 use Rattle.sccs_steps.specs.declared.faults.Fault.{Fault}
 use Rattle.sccs_steps.specs.declared.faults.Fault.TheVariants.{DiskFault}
 use Rattle.sccs_steps.proofs.FirstMoved.{early_none}
@@ -26,8 +26,8 @@ use Rattle.sccs_steps.proofs.Fronts.{early_front, early_past, err_front, err_pas
 
 -- ---- nothing was done
 
-abbrev pub moments_none : (w : List ℕ → Bool) (status : ℕ) (folder : Folder) (a : Scene) (m : Model) (past : List Model) → a.told ≡ Tells m past → MayBegin folder m → Shows w (seen a.told) (view_in folder) → ListMoments w (Ok status) folder [] a a m past
-moments_none w status folder a m past is may shows = record {
+abbrev pub crash_points_none : (w : List ℕ → Bool) (status : ℕ) (folder : Folder) (a : Scene) (m : Model) (past : List Model) → a.told ≡ Tells m past → MayBegin folder m → Shows w (seen a.told) (view_in folder) → ListCrashPoints w (Ok status) folder [] a a m past
+crash_points_none w status folder a m past is may shows = record {
   number = 0;
   most = omega arith;
   went = record {
@@ -46,8 +46,8 @@ moments_none w status folder a m past is may shows = record {
 }
 
 -- a list that wasn't begun
-abbrev pub moments_never : (w : List ℕ → Bool) (fault : Fault) (folder : Folder) (ts : List NamedStep) (a : Scene) (m : Model) (past : List Model) → a.told ≡ Tells m past → MayBegin folder m → Shows w (seen a.told) (view_in folder) → ListMoments w (Err fault) folder ts a a m past
-moments_never w fault folder ts a m past is may shows = record {
+abbrev pub crash_points_never : (w : List ℕ → Bool) (fault : Fault) (folder : Folder) (ts : List NamedStep) (a : Scene) (m : Model) (past : List Model) → a.told ≡ Tells m past → MayBegin folder m → Shows w (seen a.told) (view_in folder) → ListCrashPoints w (Err fault) folder ts a a m past
+crash_points_never w fault folder ts a m past is may shows = record {
   number = 0;
   most = omega arith;
   went = record {
@@ -99,9 +99,9 @@ went_past folder ts us i j b c m past all first next = record {
   guarded = guarded_joined next.added first.added m first.guarded next.guarded;
 }
 
-abbrev pub moments_then : (w : List ℕ → Bool) (s : ℕ) (r : Result ℕ Fault) (folder : Folder) (ts us : List NamedStep) (a b c : Scene) (m : Model) (past : List Model) → Ran w folder ts (shown a) (shown b) → (first : ListMoments w (Ok s) folder ts a b m past)
-    → ListMoments w r (folder_after folder ts) us b c (newest first.went.added m) (earlier first.went.added m past) → ListMoments w r folder (ts ++ us) a c m past
-moments_then w s r folder ts us a b c m past ran first next = record {
+abbrev pub crash_points_then : (w : List ℕ → Bool) (s : ℕ) (r : Result ℕ Fault) (folder : Folder) (ts us : List NamedStep) (a b c : Scene) (m : Model) (past : List Model) → Ran w folder ts (shown a) (shown b) → (first : ListCrashPoints w (Ok s) folder ts a b m past)
+    → ListCrashPoints w r (folder_after folder ts) us b c (newest first.went.added m) (earlier first.went.added m past) → ListCrashPoints w r folder (ts ++ us) a c m past
+crash_points_then w s r folder ts us a b c m past ran first next = record {
   number = length ts + next.number;
   most = (let low = next.most in omega (arith, low, length-append ts us));
   went = went_past folder ts us first.number next.number b.told c.told m past (first.all refl) first.went next.went;
@@ -127,8 +127,8 @@ went_front folder ts us j b m past went = record {
   guarded = went.guarded;
 }
 
-abbrev pub moments_more : (w : List ℕ → Bool) (fault : Fault) (folder : Folder) (ts us : List NamedStep) (a b : Scene) (m : Model) (past : List Model) → ListMoments w (Err fault) folder ts a b m past → ListMoments w (Err fault) folder (ts ++ us) a b m past
-moments_more w fault folder ts us a b m past l = record {
+abbrev pub crash_points_more : (w : List ℕ → Bool) (fault : Fault) (folder : Folder) (ts us : List NamedStep) (a b : Scene) (m : Model) (past : List Model) → ListCrashPoints w (Err fault) folder ts a b m past → ListCrashPoints w (Err fault) folder (ts ++ us) a b m past
+crash_points_more w fault folder ts us a b m past l = record {
   number = l.number;
   most = (let low = l.most in omega (arith, low, length-append ts us));
   went = went_front folder ts us l.number b.told m past l.went;
@@ -143,7 +143,7 @@ moments_more w fault folder ts us a b m past l = record {
 
 -- ---- acknowledged steps are counted
 
-pub acknowledged : (w : List ℕ → Bool) (r : Result ℕ Fault) (folder : Folder) (ts : List NamedStep) (a b : Scene) (m : Model) (past : List Model) → (l : ListMoments w r folder ts a b m past) → (k : ℕ) → k < length ts → IsAcknowledged r ts k (shown a) (shown b) → suc k ≤ l.number
+pub acknowledged : (w : List ℕ → Bool) (r : Result ℕ Fault) (folder : Folder) (ts : List NamedStep) (a b : Scene) (m : Model) (past : List Model) → (l : ListCrashPoints w r folder ts a b m past) → (k : ℕ) → k < length ts → IsAcknowledged r ts k (shown a) (shown b) → suc k ≤ l.number
 acknowledged w r folder ts a b m past l k below known = ⊎_elim (λ low. absurd (uncounted (omega (arith, low)) known)) (λ high. omega (arith, high)) (cases_lt l.number (suc k))
   where
     uncounted : l.number ≤ k → IsAcknowledged r ts k (shown a) (shown b) → ⊥
@@ -151,6 +151,6 @@ acknowledged w r folder ts a b m past l k below known = ⊎_elim (λ low. absurd
     uncounted low (inr (inl err)) = omega (arith, err, more_within a.err b.err (err_before ts l.number) l.err, err_rises ts l.number k low)
     uncounted low (inr (inr ok)) = omega (arith, low, below, l.all ok)
 
-pub run_moments : (x : Action) (w : List ℕ → Bool) (r : Result ℕ Fault) (folder : Folder) (ts : List NamedStep) (a b : Scene) (m : Model) (past : List Model) → (list : ListMoments w r folder ts a b m past)
-    → (r ≢ Err DiskFault → StaySafe x (view_in folder) (view_at folder ts list.number)) → (r ≢ Err DiskFault → KeepsSafe (view_in folder) (view_at folder ts list.number)) → Each (Allows (KeepsSafeFrom m)) list.went.added m → RunMoments x w r folder ts a b m past
-run_moments x w r folder ts a b m past list safe keeps images = record { list = list; acknowledged = acknowledged w r folder ts a b m past list; safe = safe; keeps = keeps; images = images }
+pub run_crash_points : (x : Action) (w : List ℕ → Bool) (r : Result ℕ Fault) (folder : Folder) (ts : List NamedStep) (a b : Scene) (m : Model) (past : List Model) → (list : ListCrashPoints w r folder ts a b m past)
+    → (r ≢ Err DiskFault → StaySafe x (view_in folder) (view_at folder ts list.number)) → (r ≢ Err DiskFault → KeepsSafe (view_in folder) (view_at folder ts list.number)) → Each (Allows (KeepsSafeFrom m)) list.went.added m → RunCrashPoints x w r folder ts a b m past
+run_crash_points x w r folder ts a b m past list safe keeps images = record { list = list; acknowledged = acknowledged w r folder ts a b m past list; safe = safe; keeps = keeps; images = images }

@@ -8,7 +8,7 @@ use Rattle.sccs_disk.specs.Images.{Allows}
 use Rattle.sccs_disk.specs.Told.{Told, Tells, seen}
 use Rattle.sccs_name_files.specs.StepFiles.{Shows}
 use Rattle.sccs_name_files.specs.Touches.{Each}
-use Rattle.sccs_crash_points.specs.Moments.{EndsAfter}
+use Rattle.sccs_crash_points.specs.CrashPoints.{EndsAfter}
 use Rattle.sccs_crash_points.proofs.UnlockedBut.{but_same}
 use Rattle.sccs_crash_points.proofs.Untouched.{before_after, same_before}
 use Rattle.sccs_steps.specs.Calls.{Scene, World, shown}
@@ -21,14 +21,14 @@ use Rattle.sccs_steps.specs.declared.faults.Fault.TheVariants as ends
 use Rattle.sccs_steps.proofs.Cleared.{cleared_same}
 use Rattle.sccs_steps.proofs.FirstMoved.{early_none, shows_none}
 use Rattle.sccs_steps.proofs.JoinedSteps.{ran_none}
-use Rattle.sccs_steps.proofs.MomentLists.{moments_never, moments_none}
-use Rattle.sccs_steps.proofs.OneMoment.{one_after}
+use Rattle.sccs_steps.proofs.CrashPointLists.{crash_points_never, crash_points_none}
+use Rattle.sccs_steps.proofs.OneCrashPoint.{one_after}
 use Rattle.sccs_steps.proofs.SafeImages.{images_now, told_once}
 use Rattle.sccs_steps.proofs.Safety.{keeps_same}
-use Rattle.sccs_step_lists.specs.Courses.{AllTake, Courses, Portion, nothing, portions_of, said, saying, steps_along, steps_in}
-use Rattle.sccs_step_lists.specs.Following.{CourseMoments, MakesCourse, RunsCourse, RunsTo, SpeaksTo, StopsCourse, UnlockedCourse}
+use Rattle.sccs_step_lists.specs.StepLists.{AllTake, StepLists, Portion, nothing, portions_of, said, saying, steps_along, steps_in}
+use Rattle.sccs_step_lists.specs.Following.{StepListCrashPoints, MakesStepList, RunsStepList, RunsTo, SpeaksTo, StopsStepList, UnlockedStepList}
 use Rattle.sccs_step_lists.specs.Sayings.{BegunSaid, IsSaid, WholeNothing, WholeSaid}
-use Rattle.sccs_step_lists.proofs.CourseMomentLaws.{course_moments}
+use Rattle.sccs_step_lists.proofs.StepListCrashPointLaws.{step_list_crash_points}
 
 still_shown : (w : List ℕ → Bool) (a b : Told) (folder : Folder) → b ≡ a → Shows w (seen a) (view_in folder) → Shows w (seen b) (view_in folder)
 still_shown w a b folder same shows = subst (λ (t : Told). Shows w (seen t) (view_in folder)) (sym same) shows
@@ -65,19 +65,19 @@ said_to out err code w (Err ends.DiskFault) folder a b same shows is = absurd is
 said_images : (v : View) (m : Model) (past : List Model) (t : Told) → t ≡ Tells m past → (ends : EndsAfter v v m past t) → Each (Allows (KeepsSafeFrom m)) ends.0.added m
 said_images v m past t is ends = subst (λ (xs : List Model). Each (Allows (KeepsSafeFrom m)) xs m) (told_once [] ends.0.added m past t is ends.0.is) (images_now m)
 
-said_moments : (out err : List ℕ) (w : List ℕ → Bool) (r : Result ℕ Fault) (folder : Folder) (a b : Scene) (m : Model) (past : List Model) → b.told ≡ a.told → Shows w (seen a.told) (view_in folder) → a.told ≡ Tells m past → MayBegin folder m
-    → GivesSome a.out b.out out → GivesSome a.err b.err err → CourseMoments w r folder (said out err ∷ []) a b m past
-said_moments out err w r folder a b m past same shows told may one two =
+said_crash_points : (out err : List ℕ) (w : List ℕ → Bool) (r : Result ℕ Fault) (folder : Folder) (a b : Scene) (m : Model) (past : List Model) → b.told ≡ a.told → Shows w (seen a.told) (view_in folder) → a.told ≡ Tells m past → MayBegin folder m
+    → GivesSome a.out b.out out → GivesSome a.err b.err err → StepListCrashPoints w r folder (said out err ∷ []) a b m past
+said_crash_points out err w r folder a b m past same shows told may one two =
     let after : EndsAfter (view_of m) (view_of m) m past b.told = before_after (view_of m) m past b.told (same_before m past b.told may.calm (same ∙ told)) in
-    course_moments w r folder (said out err ∷ []) a b m past
+    step_list_crash_points w r folder (said out err ∷ []) a b m past
     (one_after w r folder (said out err) (view_of m) (view_of m) a b m past (record { old = may.recovers; new = may.recovers }) after one two (still_shown w a.told b.told folder same shows))
     (λ other. keeps_same (view_in folder)) (said_images (view_of m) m past b.told (same ∙ told) after)
 
 said_stops : (out err : List ℕ) (code : ℕ) (w : List ℕ → Bool) (r : Result ℕ Fault) (folder : Folder) (a b : Scene) (m : Model) (past : List Model) → b.told ≡ a.told → Shows w (seen a.told) (view_in folder) → a.told ≡ Tells m past → MayBegin folder m
-    → IsSaid out err code r a b → CourseMoments w r folder (said out err ∷ []) a b m past
+    → IsSaid out err code r a b → StepListCrashPoints w r folder (said out err ∷ []) a b m past
 said_stops out err code w (Ok status) folder a b m past same shows told may is =
-    said_moments out err w (Ok status) folder a b m past same shows told may (some_of_whole a.out b.out out is.1) (some_of_whole a.err b.err err is.2)
-said_stops out err code w (Err ends.WriteFault) folder a b m past same shows told may is = said_moments out err w (Err ends.WriteFault) folder a b m past same shows told may is.0 is.1
+    said_crash_points out err w (Ok status) folder a b m past same shows told may (some_of_whole a.out b.out out is.1) (some_of_whole a.err b.err err is.2)
+said_stops out err code w (Err ends.WriteFault) folder a b m past same shows told may is = said_crash_points out err w (Err ends.WriteFault) folder a b m past same shows told may is.0 is.1
 said_stops out err code w (Err ends.Memory) folder a b m past same shows told may is = absurd is
 said_stops out err code w (Err ends.ReadFault) folder a b m past same shows told may is = absurd is
 said_stops out err code w (Err ends.DiskFault) folder a b m past same shows told may is = absurd is
@@ -89,9 +89,9 @@ said_speaks out err code (Err ends.Memory) a b is = absurd is
 said_speaks out err code (Err ends.ReadFault) a b is = absurd is
 said_speaks out err code (Err ends.DiskFault) a b is = absurd is
 
-pub said_course : (out err : List ℕ) (code : ℕ) (given : List ℕ → Type 0) (r : Result ℕ Fault) (s t : Setting) → t.stage.told ≡ s.stage.told → IsSaid out err code r s.stage t.stage → RunCauses r s.faults t.faults
-    → RunsCourse (saying out err code) given (WholeSaid out err code) (BegunSaid out err) r s t
-said_course out err code given r s t same is causes = record {
+pub said_step_list : (out err : List ℕ) (code : ℕ) (given : List ℕ → Type 0) (r : Result ℕ Fault) (s t : Setting) → t.stage.told ≡ s.stage.told → IsSaid out err code r s.stage t.stage → RunCauses r s.faults t.faults
+    → RunsStepList (saying out err code) given (WholeSaid out err code) (BegunSaid out err) r s t
+said_step_list out err code given r s t same is causes = record {
   some = λ folder i heard. λ e. absurd cc;
   takes = λ folder i. (λ changes n fits. absurd (cc), tt);
   steps = λ w folder i spares clear shows known heard. said_to out err code w r folder s.stage t.stage same shows is;
@@ -103,13 +103,13 @@ said_course out err code given r s t same is causes = record {
 
 -- ---- nothing
 
-pub nothing_course : (code : ℕ) (given : List ℕ → Type 0) (begun : List NamedStep → Type 0) (s : Setting) → RunsCourse (nothing code) given (WholeNothing code) begun (Ok code) s s
-nothing_course code given begun s = record {
+pub nothing_step_list : (code : ℕ) (given : List ℕ → Type 0) (begun : List NamedStep → Type 0) (s : Setting) → RunsStepList (nothing code) given (WholeNothing code) begun (Ok code) s s
+nothing_step_list code given begun s = record {
   some = λ folder i heard. λ e. absurd cc;
   takes = λ folder i. (λ changes n fits. absurd (cc), tt);
   steps = λ w folder i spares clear shows known heard. (refl, ran_none w folder (shown s.stage) shows);
   stops = λ w folder i m past spares clear shows heard told may safe.
-      course_moments w (Ok code) folder [] s.stage s.stage m past (moments_none w code folder s.stage m past told may shows) (λ other. keeps_same (view_in folder)) (images_now m);
+      step_list_crash_points w (Ok code) folder [] s.stage s.stage m past (crash_points_none w code folder s.stage m past told may shows) (λ other. keeps_same (view_in folder)) (images_now m);
   unlocked = λ w folder i spares clear shows known heard exempt plain freed. but_same exempt s.stage.told s.stage.told refl;
   speaks = ([], (refl, refl), gives_none s.stage.err);
   causes = record {
@@ -166,19 +166,19 @@ with_steps : (ps : List Portion) → 0 < length (steps_in ps) → ps ≢ []
 with_steps [] some = absurd (omega (arith, some))
 with_steps (p ∷ ps) some = λ e. absurd cc
 
-pub never_course : (course : Courses) (given : List ℕ → Type 0) (whole : ℕ → List NamedStep → Type 0) (begun : List NamedStep → Type 0) (ts : List NamedStep) (fault : Fault) (s t : Setting)
-    → ((folder : Folder) (i : List ℕ) → AllTake (portions_of course folder i)) → ((folder : Folder) (i : List ℕ) → 0 < length (steps_along course folder i)) → begun ts
-    → t.stage ≡ s.stage → RunCauses (Err fault) s.faults t.faults → RunsCourse course given whole begun (Err fault) s t
-never_course course given whole begun ts fault s t takes some might same causes = record {
-  some = λ folder i heard. with_steps (portions_of course folder i) (some folder i);
+pub never_step_list : (step_list : StepLists) (given : List ℕ → Type 0) (whole : ℕ → List NamedStep → Type 0) (begun : List NamedStep → Type 0) (ts : List NamedStep) (fault : Fault) (s t : Setting)
+    → ((folder : Folder) (i : List ℕ) → AllTake (portions_of step_list folder i)) → ((folder : Folder) (i : List ℕ) → 0 < length (steps_along step_list folder i)) → begun ts
+    → t.stage ≡ s.stage → RunCauses (Err fault) s.faults t.faults → RunsStepList step_list given whole begun (Err fault) s t
+never_step_list step_list given whole begun ts fault s t takes some might same causes = record {
+  some = λ folder i heard. with_steps (portions_of step_list folder i) (some folder i);
   takes = takes;
-  steps = subst (λ (b : Scene). MakesCourse course given (Err fault) s.stage b) (sym same)
-      (λ w folder i spares clear shows known heard. stops_never w fault folder (steps_along course folder i) (shown s.stage) (some folder i) shows);
-  stops = subst (λ (b : Scene). StopsCourse course given (Err fault) s.stage b) (sym same)
+  steps = subst (λ (b : Scene). MakesStepList step_list given (Err fault) s.stage b) (sym same)
+      (λ w folder i spares clear shows known heard. stops_never w fault folder (steps_along step_list folder i) (shown s.stage) (some folder i) shows);
+  stops = subst (λ (b : Scene). StopsStepList step_list given (Err fault) s.stage b) (sym same)
       (λ w folder i m past spares clear shows heard told may safe.
-      course_moments w (Err fault) folder (steps_along course folder i) s.stage s.stage m past
-      (moments_never w fault folder (steps_along course folder i) s.stage m past told may shows) (λ other. keeps_same (view_in folder)) (images_now m));
-  unlocked = subst (λ (b : Scene). UnlockedCourse course given s.stage.told b.told) (sym same)
+      step_list_crash_points w (Err fault) folder (steps_along step_list folder i) s.stage s.stage m past
+      (crash_points_never w fault folder (steps_along step_list folder i) s.stage m past told may shows) (λ other. keeps_same (view_in folder)) (images_now m));
+  unlocked = subst (λ (b : Scene). UnlockedStepList step_list given s.stage.told b.told) (sym same)
       (λ w folder i spares clear shows known heard exempt plain freed. but_same exempt s.stage.told s.stage.told refl);
   speaks = subst (λ (b : Scene). SpeaksTo whole begun (Err fault) s.stage.err b.err) (sym same) (ts, might, some_none s.stage.err _);
   causes = causes;

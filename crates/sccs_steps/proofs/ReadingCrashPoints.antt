@@ -1,4 +1,4 @@
--- The moments of a step that only reads: nothing is told anew.
+-- The crash points of a step that only reads: nothing is told anew.
 use Rattle.std.proofs.Common.{◌≡◌, ℕ, true, List, [], map, Option, None, IfSome, Result, Ok, Err, inr, refl, sym, subst, ◌∙◌}
 use Rattle.sccs_base.proofs.Gifts.{gives_none, some_none}
 use Rattle.sccs_sid.specs.declared.refusals.StepFault.{StepFault}
@@ -11,7 +11,7 @@ use Rattle.sccs_crash_points.proofs.Untouched.{before_after, before_within, same
 use Rattle.sccs_steps.specs.StepEffects.{Outcome, StepEffect, effect_of}
 use Rattle.sccs_steps.specs.Calls.{Meets, Scene, shown}
 use Rattle.sccs_steps.specs.Actions.{Action, IsHeard, KeepsFiles, RefusesWithin, SpeaksByAs, Stepped, SteppedAs, quiet_checks}
-use Rattle.sccs_steps.specs.StepStops.{After, Before, Ends, MeetsAtAs, Place, StepMoments, StepMomentsAs, Within, place_as}
+use Rattle.sccs_steps.specs.StepStops.{After, Before, Ends, MeetsAtAs, Place, StepCrashPoints, StepCrashPointsAs, Within, place_as}
 use Rattle.sccs_steps.proofs.Clear.{kept_effect}
 use Rattle.sccs_steps.proofs.SafeImages.{recovers_before}
 
@@ -26,14 +26,14 @@ met_at code x r n o m past a b reads none calm is met =
     (met, subst (λ (new : Option Files). Ends (place_as code r n o (shown a) (shown b) met) x n (view_of m) (moved (view_of m) n new) m past b.told) (sym none) (still_ends (place_as code r n o (shown a) (shown b) met) x n m past b.told reads calm is))
 
 -- of a step that answers what stands for a status
-pub reading_moments_as : {X : Type 0} (code : X → ℕ) (x : Action) (r : Result X StepFault) (n : List ℕ) (left : Option (List ℕ)) (a b : Scene) → KeepsFiles x → x.reads ≡ true → b.told ≡ a.told → SteppedAs code x r n left a b → StepMomentsAs code x r n left a b
-reading_moments_as code x r n left a b keeps reads same stepped = λ m past i is heard calm safe.
+pub reading_crash_points_as : {X : Type 0} (code : X → ℕ) (x : Action) (r : Result X StepFault) (n : List ℕ) (left : Option (List ℕ)) (a b : Scene) → KeepsFiles x → x.reads ≡ true → b.told ≡ a.told → SteppedAs code x r n left a b → StepCrashPointsAs code x r n left a b
+reading_crash_points_as code x r n left a b keeps reads same stepped = λ m past i is heard calm safe.
     let o : Outcome = x.step n i (map (view_of m) (x.named n)) (look (view_of m) n) in
     met_at code x r n o m past a b reads (kept_effect x.reads n o (λ only. keeps.quiet only n i (map (view_of m) (x.named n)) (look (view_of m) n)) reads) calm (same ∙ is)
     (subst (λ (t : Told). IfSome (seen t) (λ v. (j : List ℕ) → IsHeard x.takes left j → Meets code r n (x.step n j (map v (x.named n)) (look v n)) (shown a) (shown b))) is stepped i heard)
 
-pub reading_moments : (x : Action) (r : Result (Unit {0}) StepFault) (n : List ℕ) (left : Option (List ℕ)) (a b : Scene) → KeepsFiles x → x.reads ≡ true → b.told ≡ a.told → Stepped x r n left a b → StepMoments x r n left a b
-reading_moments x r n left a b keeps reads same stepped = reading_moments_as (λ (done : Unit {0}). 0) x r n left a b keeps reads same stepped
+pub reading_crash_points : (x : Action) (r : Result (Unit {0}) StepFault) (n : List ℕ) (left : Option (List ℕ)) (a b : Scene) → KeepsFiles x → x.reads ≡ true → b.told ≡ a.told → Stepped x r n left a b → StepCrashPoints x r n left a b
+reading_crash_points x r n left a b keeps reads same stepped = reading_crash_points_as (λ (done : Unit {0}). 0) x r n left a b keeps reads same stepped
 
 -- ---- over any disk
 

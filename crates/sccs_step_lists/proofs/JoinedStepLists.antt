@@ -1,4 +1,4 @@
--- A call that follows a course, and one that follows what its status decides.
+-- A call that follows a list of steps, and one that follows what its status decides.
 use Rattle.std.proofs.Common.{◌≢◌, ◌⊎◌, ℕ, ◌≤◌, Bool, List, [], ◌∷◌, ◌++◌, Option, Result, Ok, Err, inl, inr, refl, sym, subst, arith}
 use Rattle.sccs_base.specs.Stream.{GivesOk, GivesSome, Rose}
 use Rattle.sccs_base.proofs.Gifts.{gives_both, gives_then}
@@ -16,9 +16,9 @@ use Rattle.sccs_steps.specs.StepLists.{NamedStep, Ran, err_of, folder_after}
 use Rattle.sccs_steps.specs.declared.faults.Fault.{Fault}
 use Rattle.sccs_steps.proofs.JoinedSteps.{err_more, ran_then, stops_more, stops_then}
 use Rattle.sccs_steps.proofs.Turns.{front_all, rest_all}
-use Rattle.sccs_step_lists.specs.Courses.{AllClear, AllExempt, AllPlain, AllSafe, AllTake, Courses, NoneFinishes, Portion, follow, portions_of, steps_along, steps_in}
-use Rattle.sccs_step_lists.specs.Following.{AreKnown, BegunThen, CourseMoments, FinishesFirst, MakesCourse, RunsCourse, RunsTo, SpeaksTo, StopsCourse, UnlockedCourse, WholeThen}
-use Rattle.sccs_step_lists.proofs.CourseMomentLaws.{keeps_now, may_now, more_moments, then_moments}
+use Rattle.sccs_step_lists.specs.StepLists.{AllClear, AllExempt, AllPlain, AllSafe, AllTake, StepLists, NoneFinishes, Portion, follow, portions_of, steps_along, steps_in}
+use Rattle.sccs_step_lists.specs.Following.{AreKnown, BegunThen, StepListCrashPoints, FinishesFirst, MakesStepList, RunsStepList, RunsTo, SpeaksTo, StopsStepList, UnlockedStepList, WholeThen}
+use Rattle.sccs_step_lists.proofs.StepListCrashPointLaws.{keeps_now, may_now, more_crash_points, then_crash_points}
 use Rattle.sccs_step_lists.proofs.Portions.{both_all, safe_later, steps_more}
 use Rattle.sccs_base.proofs.Rises.{rose_later}
 
@@ -74,11 +74,11 @@ some_more (p ∷ ps) qs some = λ e. absurd cc
 
 -- ---- to its end, and then the other
 
-pub course_then : (first : Courses) (rest : ℕ → Courses) (given given1 given2 : List ℕ → Type 0)
+pub step_list_then : (first : StepLists) (rest : ℕ → StepLists) (given given1 given2 : List ℕ → Type 0)
     (whole : ℕ → List NamedStep → Type 0) (begun : List NamedStep → Type 0) (whole2 : ℕ → ℕ → List NamedStep → Type 0) (begun2 : ℕ → List NamedStep → Type 0) (one : ℕ) (r : Result ℕ Fault) (s t u : Setting)
     → ((i : List ℕ) → given i → given1 i) → ((i : List ℕ) → given i → given2 i) → ((code : ℕ) (folder : Folder) (i : List ℕ) → AllTake (portions_of (rest code) folder i))
-    → RunsCourse first given1 whole begun (Ok one) s t → RunsCourse (rest one) given2 (whole2 one) (begun2 one) r t u → RunsCourse (follow first rest) given (WholeThen whole whole2) (BegunThen whole begun begun2) r s u
-course_then first rest given given1 given2 whole begun whole2 begun2 one r s t u to1 to2 takes done next = record {
+    → RunsStepList first given1 whole begun (Ok one) s t → RunsStepList (rest one) given2 (whole2 one) (begun2 one) r t u → RunsStepList (follow first rest) given (WholeThen whole whole2) (BegunThen whole begun begun2) r s u
+step_list_then first rest given given1 given2 whole begun whole2 begun2 one r s t u to1 to2 takes done next = record {
   some = λ folder i heard. some_more (portions_of first folder i) (rest_in folder i) (done.some folder i (to1 i heard));
   takes = λ folder i. both_all _ (portions_of first folder i) (rest_in folder i) (done.takes folder i) (takes (first folder i).status (left_in folder i) i);
   steps = λ w folder i spares clear shows known heard.
@@ -111,14 +111,14 @@ course_then first rest given given1 given2 whole begun whole2 begun2 one r s t u
     known_rest w folder i spares clear shows heard (inl none) = inl (rest_all _ (portions_of first folder i) (rest_in folder i) none)
     known_rest w folder i spares clear shows heard (inr (inr begun)) = inl (none_behind s.stage.told folder (portions_of first folder i) (rest_in folder i) (done.some folder i (to1 i heard)) begun)
     known_rest w folder i spares clear shows heard (inr (inl safe)) =
-        let moments : CourseMoments w (Ok one) folder (steps_along first folder i) s.stage t.stage safe.model safe.past =
+        let crash_points : StepListCrashPoints w (Ok one) folder (steps_along first folder i) s.stage t.stage safe.model safe.past =
         done.stops w folder i safe.model safe.past spares (front_all _ (portions_of first folder i) (rest_in folder i) clear) shows (to1 i heard) safe.is safe.may (front_all _ (portions_of first folder i) (rest_in folder i) safe.safe) in
         inr (inl (record {
-          model = newest moments.list.went.added safe.model;
-          past = earlier moments.list.went.added safe.model safe.past;
-          is = moments.list.went.is;
-          may = may_now w one folder (steps_along first folder i) s.stage t.stage safe.model safe.past moments;
-          safe = safe_later (rest_in folder i) (view_in folder) (view_in (left_in folder i)) (keeps_now w one folder (steps_along first folder i) s.stage t.stage safe.model safe.past moments) (takes (first folder i).status (left_in folder i) i)
+          model = newest crash_points.list.went.added safe.model;
+          past = earlier crash_points.list.went.added safe.model safe.past;
+          is = crash_points.list.went.is;
+          may = may_now w one folder (steps_along first folder i) s.stage t.stage safe.model safe.past crash_points;
+          safe = safe_later (rest_in folder i) (view_in folder) (view_in (left_in folder i)) (keeps_now w one folder (steps_along first folder i) s.stage t.stage safe.model safe.past crash_points) (takes (first folder i).status (left_in folder i) i)
               (rest_all _ (portions_of first folder i) (rest_in folder i) safe.safe);
         }))
 
@@ -127,17 +127,17 @@ course_then first rest given given1 given2 whole begun whole2 begun2 one r s t u
     steps_at w folder i spares clear shows known heard ran =
         subst (λ (ts : List NamedStep). RunsTo (follow first rest folder i).status w r folder ts (shown s.stage) (shown u.stage)) (sym (steps_more (portions_of first folder i) (rest_in folder i)))
         (runs_then (follow first rest folder i).status w r folder (steps_along first folder i) (steps_in (rest_in folder i)) (shown s.stage) (shown t.stage) (shown u.stage) ran.1
-        ((subst (λ code. MakesCourse (rest code) given2 r t.stage u.stage) ran.0 next.steps) w (left_in folder i) i spares (rest_all _ (portions_of first folder i) (rest_in folder i) clear) ran.1.view (known_rest w folder i spares clear shows heard known) (to2 i heard)))
+        ((subst (λ code. MakesStepList (rest code) given2 r t.stage u.stage) ran.0 next.steps) w (left_in folder i) i spares (rest_all _ (portions_of first folder i) (rest_in folder i) clear) ran.1.view (known_rest w folder i spares clear shows heard known) (to2 i heard)))
 
     stops_at : (w : List ℕ → Bool) (folder : Folder) (i : List ℕ) (m : Model) (past : List Model) → Spares w → AllClear w (portions_of (follow first rest) folder i) → given i
-        → AllSafe (view_in folder) (portions_of (follow first rest) folder i) → Began w folder i → CourseMoments w (Ok one) folder (steps_along first folder i) s.stage t.stage m past
-        → CourseMoments w r folder (steps_along (follow first rest) folder i) s.stage u.stage m past
-    stops_at w folder i m past spares clear heard safe ran moments =
-        subst (λ (ts : List NamedStep). CourseMoments w r folder ts s.stage u.stage m past) (sym (steps_more (portions_of first folder i) (rest_in folder i)))
-        (then_moments w one r folder (steps_along first folder i) (steps_in (rest_in folder i)) s.stage t.stage u.stage m past ran.1 moments
-        ((subst (λ code. StopsCourse (rest code) given2 r t.stage u.stage) ran.0 next.stops) w (left_in folder i) i (newest moments.list.went.added m) (earlier moments.list.went.added m past) spares
-        (rest_all _ (portions_of first folder i) (rest_in folder i) clear) ran.1.view (to2 i heard) moments.list.went.is (may_now w one folder (steps_along first folder i) s.stage t.stage m past moments)
-        (safe_later (rest_in folder i) (view_in folder) (view_in (left_in folder i)) (keeps_now w one folder (steps_along first folder i) s.stage t.stage m past moments) (takes (first folder i).status (left_in folder i) i) (rest_all _ (portions_of first folder i) (rest_in folder i) safe))))
+        → AllSafe (view_in folder) (portions_of (follow first rest) folder i) → Began w folder i → StepListCrashPoints w (Ok one) folder (steps_along first folder i) s.stage t.stage m past
+        → StepListCrashPoints w r folder (steps_along (follow first rest) folder i) s.stage u.stage m past
+    stops_at w folder i m past spares clear heard safe ran crash_points =
+        subst (λ (ts : List NamedStep). StepListCrashPoints w r folder ts s.stage u.stage m past) (sym (steps_more (portions_of first folder i) (rest_in folder i)))
+        (then_crash_points w one r folder (steps_along first folder i) (steps_in (rest_in folder i)) s.stage t.stage u.stage m past ran.1 crash_points
+        ((subst (λ code. StopsStepList (rest code) given2 r t.stage u.stage) ran.0 next.stops) w (left_in folder i) i (newest crash_points.list.went.added m) (earlier crash_points.list.went.added m past) spares
+        (rest_all _ (portions_of first folder i) (rest_in folder i) clear) ran.1.view (to2 i heard) crash_points.list.went.is (may_now w one folder (steps_along first folder i) s.stage t.stage m past crash_points)
+        (safe_later (rest_in folder i) (view_in folder) (view_in (left_in folder i)) (keeps_now w one folder (steps_along first folder i) s.stage t.stage m past crash_points) (takes (first folder i).status (left_in folder i) i) (rest_all _ (portions_of first folder i) (rest_in folder i) safe))))
 
     unlocked_at : (w : List ℕ → Bool) (folder : Folder) (i : List ℕ) → Spares w → AllClear w (portions_of (follow first rest) folder i) → Shows w (seen s.stage.told) (view_in folder) → AreKnown s.stage.told folder (portions_of (follow first rest) folder i) → given i
         → (exempt : List ℕ → Bool) → AllPlain (portions_of (follow first rest) folder i) → AllExempt exempt (portions_of (follow first rest) folder i) → Began w folder i → BeginsUnlockedBut exempt s.stage.told u.stage.told
@@ -145,24 +145,24 @@ course_then first rest given given1 given2 whole begun whole2 begun2 one r s t u
         let ps : List Portion = portions_of first folder i in
         let qs : List Portion = rest_in folder i in
         but_then exempt s.stage.told t.stage.told u.stage.told (done.unlocked w folder i spares (front_all _ ps qs clear) shows (known_first s.stage.told folder ps qs known) (to1 i heard) exempt (front_all _ ps qs plain) (front_all _ ps qs freed))
-        ((subst (λ code. UnlockedCourse (rest code) given2 t.stage.told u.stage.told) ran.0 next.unlocked) w (left_in folder i) i spares (rest_all _ ps qs clear) ran.1.view (known_rest w folder i spares clear shows heard known) (to2 i heard) exempt (rest_all _ ps qs plain) (rest_all _ ps qs freed))
+        ((subst (λ code. UnlockedStepList (rest code) given2 t.stage.told u.stage.told) ran.0 next.unlocked) w (left_in folder i) i spares (rest_all _ ps qs clear) ran.1.view (known_rest w folder i spares clear shows heard known) (to2 i heard) exempt (rest_all _ ps qs plain) (rest_all _ ps qs freed))
 
 -- ---- ended early
 
--- a call that ended a course early ended what follows it too
-pub course_cut : (first : Courses) (rest : ℕ → Courses) (given given1 : List ℕ → Type 0)
+-- a call that ended a list of steps early ended what follows it too
+pub step_list_cut : (first : StepLists) (rest : ℕ → StepLists) (given given1 : List ℕ → Type 0)
     (whole : ℕ → List NamedStep → Type 0) (begun : List NamedStep → Type 0) (whole2 : ℕ → ℕ → List NamedStep → Type 0) (begun2 : ℕ → List NamedStep → Type 0) (fault : Fault) (s t : Setting)
     → ((i : List ℕ) → given i → given1 i) → ((code : ℕ) (folder : Folder) (i : List ℕ) → AllTake (portions_of (rest code) folder i))
-    → RunsCourse first given1 whole begun (Err fault) s t → RunsCourse (follow first rest) given (WholeThen whole whole2) (BegunThen whole begun begun2) (Err fault) s t
-course_cut first rest given given1 whole begun whole2 begun2 fault s t to1 takes cut = record {
+    → RunsStepList first given1 whole begun (Err fault) s t → RunsStepList (follow first rest) given (WholeThen whole whole2) (BegunThen whole begun begun2) (Err fault) s t
+step_list_cut first rest given given1 whole begun whole2 begun2 fault s t to1 takes cut = record {
   some = λ folder i heard. some_more (portions_of first folder i) (rest_in folder i) (cut.some folder i (to1 i heard));
   takes = λ folder i. both_all _ (portions_of first folder i) (rest_in folder i) (cut.takes folder i) (takes (first folder i).status (folder_after folder (steps_along first folder i)) i);
   steps = λ w folder i spares clear shows known heard.
       subst (λ (ts : List NamedStep). RunsTo (follow first rest folder i).status w (Err fault) folder ts (shown s.stage) (shown t.stage)) (sym (steps_more (portions_of first folder i) (rest_in folder i)))
       (stops_more w fault folder (steps_along first folder i) (steps_in (rest_in folder i)) (shown s.stage) (shown t.stage) (cut.steps w folder i spares (front_all _ (portions_of first folder i) (rest_in folder i) clear) shows (known_first s.stage.told folder (portions_of first folder i) (rest_in folder i) known) (to1 i heard)));
   stops = λ w folder i m past spares clear shows heard told may safe.
-      subst (λ (ts : List NamedStep). CourseMoments w (Err fault) folder ts s.stage t.stage m past) (sym (steps_more (portions_of first folder i) (rest_in folder i)))
-      (more_moments w fault folder (steps_along first folder i) (steps_in (rest_in folder i)) s.stage t.stage m past
+      subst (λ (ts : List NamedStep). StepListCrashPoints w (Err fault) folder ts s.stage t.stage m past) (sym (steps_more (portions_of first folder i) (rest_in folder i)))
+      (more_crash_points w fault folder (steps_along first folder i) (steps_in (rest_in folder i)) s.stage t.stage m past
       (cut.stops w folder i m past spares (front_all _ (portions_of first folder i) (rest_in folder i) clear) shows (to1 i heard) told may (front_all _ (portions_of first folder i) (rest_in folder i) safe)));
   unlocked = λ w folder i spares clear shows known heard exempt plain freed.
       cut.unlocked w folder i spares (front_all _ (portions_of first folder i) (rest_in folder i) clear) shows (known_first s.stage.told folder (portions_of first folder i) (rest_in folder i) known) (to1 i heard) exempt (front_all _ (portions_of first folder i) (rest_in folder i) plain) (front_all _ (portions_of first folder i) (rest_in folder i) freed);

@@ -1,7 +1,7 @@
--- The moments of a call: each has a number, which never falls, and what a stop may leave of it.
+-- The crash points of a call: each has a number, which never falls, and what a stop may leave of it.
 use Rattle.std.specs.Prelude.{◌≡◌, ◌⊎◌, ◌≤◌, ℕ, false, List, [], ◌∷◌, None, IsSome}
 use Rattle.std.specs.Str.{bytes_eq}
-use Rattle.sccs_base.specs.Name.{IsSfile, sibling, z_file}
+use Rattle.sccs_base.specs.Name.{IsSFileName, sibling, z_file}
 use Rattle.sccs_disk.specs.Files.{View, Model, view_of}
 use Rattle.sccs_disk.specs.Images.{Allows, Image}
 use Rattle.sccs_disk.specs.Told.{Told, Tells}
@@ -17,7 +17,7 @@ Numbered P low (a ∷ added) m j = P j a × ((i : ℕ) × (i ≤ j) × Numbered 
 
 -- where an s-file or its p-file differs, its z-file is in both views
 abbrev pub Guards : View → View → Type 0
-Guards v w = (n : List ℕ) → IsSfile n → (pair_of w n ≡ pair_of v n) ⊎ (IsSome (v (z_file n)) × IsSome (w (z_file n)))
+Guards v w = (n : List ℕ) → IsSFileName n → (pair_of w n ≡ pair_of v n) ⊎ (IsSome (v (z_file n)) × IsSome (w (z_file n)))
 
 -- from each moment to the next no s-file or p-file changes whose z-file isn't there
 abbrev pub Guarded : List Model → Model → Type 0
@@ -70,7 +70,7 @@ IsFrom m w = (u : View) × Image m u × RecoversAs u w
 
 -- an intent names no s-file
 abbrev pub NamesNone : View → Type 0
-NamesNone v = (n : List ℕ) → IsSfile n → fate_at v n ≡ None
+NamesNone v = (n : List ℕ) → IsSFileName n → fate_at v n ≡ None
 
 -- Recovery of names may begin: what it needs is firm, and a stop leaves no intent that names an s-file.
 pub record CanRecover (m : Model) : Type 0 where
@@ -115,10 +115,10 @@ LeavesFirm old new =
 -- the two views have the same intent, and the same files of every other name at which recovery looks
 pub record SameElsewhere (n : List ℕ) (v w : View) : Type 0 where
   pub intent : w intent_file ≡ v intent_file
-  pub s_files : (k : List ℕ) → IsSfile k → bytes_eq n k ≡ false → w k ≡ v k
-  pub siblings : (letter : ℕ) (k : List ℕ) → IsSfile k → bytes_eq n k ≡ false → w (sibling letter k) ≡ v (sibling letter k)
+  pub s_files : (k : List ℕ) → IsSFileName k → bytes_eq n k ≡ false → w k ≡ v k
+  pub siblings : (letter : ℕ) (k : List ℕ) → IsSFileName k → bytes_eq n k ≡ false → w (sibling letter k) ≡ v (sibling letter k)
 
 -- The step's name recovers as in w, or as in v while j is 0, and every other name as in v.
 pub record IsAtName (n : List ℕ) (v w : View) (j : ℕ) (u : View) : Type 0 where
   pub own : (pair_of (recover n u) n ≡ pair_of (recover n w) n) ⊎ ((j ≡ 0) × (pair_of (recover n u) n ≡ pair_of (recover n v) n))
-  pub others : (k : List ℕ) → IsSfile k → bytes_eq n k ≡ false → pair_of (recover k u) k ≡ pair_of (recover k v) k
+  pub others : (k : List ℕ) → IsSFileName k → bytes_eq n k ≡ false → pair_of (recover k u) k ≡ pair_of (recover k v) k

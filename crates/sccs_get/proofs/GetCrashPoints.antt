@@ -1,8 +1,8 @@
--- The moments of a get that changes files.
+-- The crash points of a get that changes files.
 use Rattle.std.proofs.Common.{◌≡◌, ℕ, Bool, true, false, List, [], drop, Option, Some, is_some, Result, Ok, Err, inl, inr, refl, sym, ap, subst, ◌∙◌}
 use Rattle.std.specs.Prelude.{if◌then◌else◌}
 use Rattle.std.specs.Str.{bytes_eq}
-use Rattle.sccs_base.specs.Name.{IsSfile, p_file, q_file, x_file, y_file, z_file}
+use Rattle.sccs_base.specs.Name.{IsSFileName, p_file, q_file, x_file, y_file, z_file}
 use Rattle.sccs_base.specs.Stream.{GivesOk}
 use Rattle.sccs_sid.specs.declared.moments.Stamp.{Stamp}
 use Rattle.sccs_sid.specs.declared.refusals.StepFault.{StepFault}
@@ -21,7 +21,7 @@ use Rattle.sccs_name_files.specs.StepFiles.{Moves, l_file, look, moved}
 use Rattle.sccs_store.specs.Placing.{HasMade}
 use Rattle.sccs_store.proofs.MadeWhole.{ends_after, ends_pairs, ends_within}
 use Rattle.sccs_crash_points.specs.Calm.{IsCalm, KeepsPairs}
-use Rattle.sccs_crash_points.specs.Moments.{EndsAfter, EndsBefore, IsAt}
+use Rattle.sccs_crash_points.specs.CrashPoints.{EndsAfter, EndsBefore, IsAt}
 use Rattle.sccs_crash_points.specs.Recovery.{RecoversAs, is_kept}
 use Rattle.sccs_crash_points.proofs.FileNames.{from_g, kept_intent, kept_p, kept_q, kept_s, kept_x, kept_z, l_plain}
 use Rattle.sccs_crash_points.proofs.Joined.{numbered_as, numbered_now, went_then, stays_as}
@@ -48,7 +48,7 @@ use Rattle.sccs_get.proofs.SummaryLaws.{down_summed, l_new, l_put, part, placed_
 
 -- ---- a file anew that is none at which recovery looks
 
-put_looks : (to : List ℕ) (c : Content) (v : View) → is_kept to ≡ false → (k : List ℕ) → IsSfile k → LooksAlike k v (put v to (Some c))
+put_looks : (to : List ℕ) (c : Content) (v : View) → is_kept to ≡ false → (k : List ℕ) → IsSFileName k → LooksAlike k v (put v to (Some c))
 put_looks to c v plain k sfile = record {
   fate = fate_same k v (put v to (Some c)) (put_other v to intent_file (Some c) (kept_intent to plain));
   s = put_other v to k (Some c) (kept_s to k plain sfile);
@@ -63,14 +63,14 @@ put_recovers to c v plain =
     recovers_back v (put v to (Some c))
     (looks_recover v (put v to (Some c)) (record { intent = put_other v to intent_file (Some c) (kept_intent to plain); looks = λ k sfile. put_looks to c v plain k sfile }))
 
-put_safe : (n to : List ℕ) (c : Content) (v : View) → IsSfile n → is_kept to ≡ false → IsSafe n v → IsSafe n (put v to (Some c))
+put_safe : (n to : List ℕ) (c : Content) (v : View) → IsSFileName n → is_kept to ≡ false → IsSafe n v → IsSafe n (put v to (Some c))
 put_safe n to c v sfile plain safe = same_safe n v (put v to (Some c)) sfile (put_looks to c v plain n sfile) safe
 
 -- an l-file and a g-file, where they are anew
 abbrev files_put : (l g : Bool) → List ℕ → List ℕ → List ℕ → Bool → View → View
 files_put l g n summary text writable v = let u : View = if l then l_put n summary v else v in if g then g_put n (content text writable) u else u
 
-moved_is : (l g : Bool) (n summary text : List ℕ) (writable : Bool) (v : View) → IsSfile n → moved v n (l_new l g n summary text writable v) ≡ files_put l g n summary text writable v
+moved_is : (l g : Bool) (n summary text : List ℕ) (writable : Bool) (v : View) → IsSFileName n → moved v n (l_new l g n summary text writable v) ≡ files_put l g n summary text writable v
 moved_is true true n summary text writable v sfile = placed_both n summary text writable v sfile
 moved_is true false n summary text writable v sfile = placed_l n summary v sfile
 moved_is false true n summary text writable v sfile = placed_g n v text writable sfile
@@ -85,11 +85,11 @@ files_recover l true n summary text writable v plain =
     recovers_then (g_put n (content text writable) (if l then l_put n summary v else v)) (if l then l_put n summary v else v) v (put_recovers (drop 2 n) (content text writable) (if l then l_put n summary v else v) plain) (l_recovers l n summary v)
 files_recover l false n summary text writable v plain = l_recovers l n summary v
 
-l_safe : (l : Bool) (n summary : List ℕ) (v : View) → IsSfile n → IsSafe n v → IsSafe n (if l then l_put n summary v else v)
+l_safe : (l : Bool) (n summary : List ℕ) (v : View) → IsSFileName n → IsSafe n v → IsSafe n (if l then l_put n summary v else v)
 l_safe true n summary v sfile safe = put_safe n (l_file n) (summary_file summary) v sfile (l_plain n) safe
 l_safe false n summary v sfile safe = safe
 
-files_safe : (l g : Bool) (n summary text : List ℕ) (writable : Bool) (v : View) → IsSfile n → IsSafe n v → IsSafe n (files_put l g n summary text writable v)
+files_safe : (l g : Bool) (n summary text : List ℕ) (writable : Bool) (v : View) → IsSFileName n → IsSafe n v → IsSafe n (files_put l g n summary text writable v)
 files_safe l true n summary text writable v sfile safe = put_safe n (drop 2 n) (content text writable) (if l then l_put n summary v else v) sfile safe.plain (l_safe l n summary v sfile safe)
 files_safe l false n summary text writable v sfile safe = l_safe l n summary v sfile safe
 
@@ -135,7 +135,7 @@ y_leaves n c v a b is = λ m past told m2 past2 now. ap (λ (t : View). t (y_fil
     view_is : (u w : View) → Some u ≡ Some w → u ≡ w
     view_is u w e = cc
 
-module _ (words : GetWords) (stamp : Stamp) (place : List ℕ) (heading : Bool) (n : List ℕ) (sfile : IsSfile n) where
+module _ (words : GetWords) (stamp : Stamp) (place : List ℕ) (heading : Bool) (n : List ℕ) (sfile : IsSFileName n) where
   abbrev action : Action
   action = get_action words stamp place heading
 

@@ -1,7 +1,7 @@
--- The moments of the command recover.
+-- The crash points of the command recover.
 use Rattle.std.proofs.Common.{◌||◌, ◌≡◌, ◌≢◌, ◌↔◌, ℕ, Bool, true, false, cond, List, [], ◌∷◌, Option, None, Some, IfSome, IsErrOf, is_some, Result, Ok, Err, inl, inr, refl, sym, ap, subst, ◌∙◌, arith}
 use Rattle.std.specs.Prelude.{IsSome}
-use Rattle.sccs_base.specs.Name.{IsSfile, p_file, z_file}
+use Rattle.sccs_base.specs.Name.{IsSFileName, p_file, z_file}
 use Rattle.sccs_sid.specs.declared.refusals.StepFault.{StepFault}
 use Rattle.sccs_sid.specs.declared.refusals.StepFault.TheVariants.{Refused, Memory, ReadFault, WriteFault, DiskFault}
 use Rattle.sccs_disk.specs.Files.{Content, Model, View, view_of}
@@ -15,7 +15,7 @@ use Rattle.sccs_name_files.specs.Touches.{Each, TouchesOnly, earlier, newest}
 use Rattle.sccs_intents.specs.Intents.{entries_in, fate_in, intent_file}
 use Rattle.sccs_intents.specs.declared.intents.Fate.{Fate}
 use Rattle.sccs_crash_points.specs.Calm.{IsCalm}
-use Rattle.sccs_crash_points.specs.Moments.{EndsAfter, EndsBefore, EndsWithin, IsAt, IsCalmUnnamed, IsFrom, KeepsCalm, LeavesCalm, LeavesFirm, NamesNone, RecoversOn, Went}
+use Rattle.sccs_crash_points.specs.CrashPoints.{EndsAfter, EndsBefore, EndsWithin, IsAt, IsCalmUnnamed, IsFrom, KeepsCalm, LeavesCalm, LeavesFirm, NamesNone, RecoversOn, Went}
 use Rattle.sccs_crash_points.specs.Recovery.{Pair, RecoversAs, fate_at, recover, recover_alone, recover_by}
 use Rattle.sccs_crash_points.proofs.FileNames.{working_s}
 use Rattle.sccs_crash_points.proofs.Joined.{numbered_as, numbered_now, raised}
@@ -26,7 +26,7 @@ use Rattle.sccs_steps.specs.StepEffects.{Outcome, effect_of}
 use Rattle.sccs_steps.specs.Calls.{Meets, scene, world}
 use Rattle.sccs_steps.specs.Actions.{IsHeard}
 use Rattle.sccs_steps.specs.Recovering.{RecoversStep}
-use Rattle.sccs_steps.specs.StepStops.{ArePaired, Ends, IsSafe, IsSafeFor, MeetsAt, StepMoments, meeting_place}
+use Rattle.sccs_steps.specs.StepStops.{ArePaired, Ends, IsSafe, IsSafeFor, MeetsAt, StepCrashPoints, meeting_place}
 use Rattle.sccs_steps.specs.Unlocked.{KeepsNamed}
 use Rattle.sccs_steps.proofs.Carried.{intent_there}
 use Rattle.sccs_steps.proofs.SafeImages.{numbered_each, recovers_before}
@@ -61,7 +61,7 @@ named_not None is named = cc
 named_not (Some fate) is named = cc
 
 -- where no intent names an s-file the view after the step recovers as the one before it
-after_recovers : (freed : List ℕ → Bool) (n : List ℕ) (v : View) → IsSfile n → NamesNone v → RecoversAs (moved v n (recovers freed n (look v n)).new) v
+after_recovers : (freed : List ℕ → Bool) (n : List ℕ) (v : View) → IsSFileName n → NamesNone v → RecoversAs (moved v n (recovers freed n (look v n)).new) v
 after_recovers freed n v sfile none =
     let w : View = moved v n (recovers freed n (look v n)).new in
     let alone : recover n v ≡ recover_alone n v = ap (recover_by n v) (none n sfile) in
@@ -74,19 +74,19 @@ after_recovers freed n v sfile none =
     (recovers_back v (recover_alone n v) (subst (λ (u : View). RecoversAs v u) alone (recovers_recovered n v sfile)))
 
 -- and the name is safe again
-after_safe : (n : List ℕ) (v : View) (z : Bool) → is_some (v (z_file n)) ≡ z → IsSfile n → NamesNone v → IsSafe n v → IsSafe n (moved v n (cond z (Some (recovered_files (look v n))) None))
+after_safe : (n : List ℕ) (v : View) (z : Bool) → is_some (v (z_file n)) ≡ z → IsSFileName n → NamesNone v → IsSafe n v → IsSafe n (moved v n (cond z (Some (recovered_files (look v n))) None))
 after_safe n v true is sfile none safe =
     placed_safe n v (recovered_files (look v n)) sfile safe.plain (none n sfile) (twice_once (v n) (v (p_file n)))
     (subst (λ (x : Pair). ArePaired x.s x.p) (recovered_is n v sfile ∙ (recovered_under n v None (none n sfile) ∙ ap (recovered (v n) (v (p_file n))) is)) safe.paired)
 after_safe n v false is sfile none safe = safe
 
--- ---- moments
+-- ---- crash points
 
 -- what recovers as an image of a calm disk recovers as its view
 as_before : (m : Model) (u : View) → IsCalm m → IsFrom m u → RecoversAs (view_of m) u
 as_before m u calm from = recovers_then (view_of m) from.0 u (calm from.0 from.1).recovers from.2
 
-made_after : (freed : List ℕ → Bool) (n : List ℕ) (a b : Told) (m : Model) (past : List Model) → IsSfile n → RecoversOn a b → LeavesCalm a b → a ≡ Tells m past → IsCalmUnnamed m → EndsAfter (view_of m) (moved (view_of m) n (recovers freed n (look (view_of m) n)).new) m past b
+made_after : (freed : List ℕ → Bool) (n : List ℕ) (a b : Told) (m : Model) (past : List Model) → IsSFileName n → RecoversOn a b → LeavesCalm a b → a ≡ Tells m past → IsCalmUnnamed m → EndsAfter (view_of m) (moved (view_of m) n (recovers freed n (look (view_of m) n)).new) m past b
 made_after freed n a b m past sfile story leaves is calm =
     let v : View = view_of m in
     let w : View = moved (view_of m) n (recovers freed n (look (view_of m) n)).new in
@@ -124,7 +124,7 @@ stopped_same w a b m past story leaves is calm =
 -- ---- the call
 
 -- the name was recovered, and it is said how it was found
-made_at : (freed : List ℕ → Bool) (n : List ℕ) (r : Result (Unit {0}) StepFault) (m : Model) (past : List Model) (a b : Told) (out out2 err : Option (List ℕ)) → IsSfile n → seen b ≡ Some (recover_alone n (view_of m)) → Says r (recovers freed n (look (view_of m) n)).out out out2
+made_at : (freed : List ℕ → Bool) (n : List ℕ) (r : Result (Unit {0}) StepFault) (m : Model) (past : List Model) (a b : Told) (out out2 err : Option (List ℕ)) → IsSFileName n → seen b ≡ Some (recover_alone n (view_of m)) → Says r (recovers freed n (look (view_of m) n)).out out out2
     → EndsAfter (view_of m) (moved (view_of m) n (recovers freed n (look (view_of m) n)).new) m past b → IsSafeFor (recover_action freed) n (moved (view_of m) n (recovers freed n (look (view_of m) n)).new)
     → (met : Meets (λ (done : Unit {0}). 0) r n (Ok (recovers freed n (look (view_of m) n))) (world (Some (view_of m)) out err) (world (seen b) out2 err))
     × Ends (meeting_place r n (Ok (recovers freed n (look (view_of m) n))) (world (Some (view_of m)) out err) (world (seen b) out2 err) met) (recover_action freed) n (view_of m) (moved (view_of m) n (recovers freed n (look (view_of m) n)).new) m past b
@@ -135,10 +135,10 @@ made_at freed n (Err ReadFault) m past a b out out2 err sfile view says ends saf
 made_at freed n (Err DiskFault) m past a b out out2 err sfile view says ends safe = absurd says
 made_at freed n (Err (Refused refusal)) m past a b out out2 err sfile view says ends safe = absurd says
 
-pub made_moments : (freed : List ℕ → Bool) (n : List ℕ) (found : Recovered) (r : Result (Unit {0}) StepFault) (a b : Told) (left out out2 err : Option (List ℕ)) → IsSfile n → Becomes (recover_alone n) (seen a) (seen b)
+pub made_crash_points : (freed : List ℕ → Bool) (n : List ℕ) (found : Recovered) (r : Result (Unit {0}) StepFault) (a b : Told) (left out out2 err : Option (List ℕ)) → IsSFileName n → Becomes (recover_alone n) (seen a) (seen b)
     → IfSome (seen a) (λ (v : View). (found ≡ ways.Clean) ↔ (v (z_file n) ≡ None)) → IfSome (seen a) (λ (v : View). PassesChecks (free_checked n v) (Ok found)) → Says r (found_text n (is_locked found || freed n)) out out2 → RecoversOn a b → LeavesCalm a b
-    → StepMoments (recover_action freed) r n left (scene a out err) (scene b out2 err)
-made_moments freed n found r a b left out out2 err sfile view clean checks says story leaves = λ m past i is heard calm may.
+    → StepCrashPoints (recover_action freed) r n left (scene a out err) (scene b out2 err)
+made_crash_points freed n found r a b left out out2 err sfile view clean checks says story leaves = λ m past i is heard calm may.
     let v : View = view_of m in
     let passed : PassesChecks (free_checked n v) (Ok found) = subst (λ (t : Told). IfSome (seen t) (λ (u : View). PassesChecks (free_checked n u) (Ok found))) is checks in
     let at : IsCalmUnnamed m = record { calm = calm; unnamed = none_named v (free_of (v intent_file) (checked n v) passed) } in
@@ -150,7 +150,7 @@ made_moments freed n found r a b left out out2 err sfile view clean checks says 
     (made_at freed n r m past a b out out2 err sfile view_is said (made_after freed n a b m past sfile story leaves is at) (λ changes. after_safe n v (is_some (v (z_file n))) refl sfile at.unnamed (may changes))))
 
 -- the call answers a fault
-fault_at : (freed : List ℕ → Bool) (fault : StepFault) (n : List ℕ) (o : Outcome) (a b : Told) (out err : Option (List ℕ)) (m : Model) (past : List Model) → Faults n fault a b → RecoversOn a b → LeavesFirm a b → (fault ≡ Memory → TouchesOnly (is_working n) a b) → a ≡ Tells m past → IsSfile n → IsCalmUnnamed m → IsSafeFor (recover_action freed) n (view_of m)
+fault_at : (freed : List ℕ → Bool) (fault : StepFault) (n : List ℕ) (o : Outcome) (a b : Told) (out err : Option (List ℕ)) (m : Model) (past : List Model) → Faults n fault a b → RecoversOn a b → LeavesFirm a b → (fault ≡ Memory → TouchesOnly (is_working n) a b) → a ≡ Tells m past → IsSFileName n → IsCalmUnnamed m → IsSafeFor (recover_action freed) n (view_of m)
     → (met : Meets (λ (done : Unit {0}). 0) (Err fault) n o (world (Some (view_of m)) out err) (world (seen b) out err)) → Ends (meeting_place (Err fault) n o (world (Some (view_of m)) out err) (world (seen b) out err) met) (recover_action freed) n (view_of m) (moved (view_of m) n (effect_of n o).new) m past b
 fault_at freed (Refused refusal) n o a b out err m past faults story leaves touches is sfile calm safe met =
     subst (λ (q : Outcome). EndsAfter (view_of m) (moved (view_of m) n (effect_of n q).new) m past b × IsSafeFor (recover_action freed) n (moved (view_of m) n (effect_of n q).new)) (sym met.0)
@@ -174,9 +174,9 @@ fault_pending freed DiskFault n o a b out err m past faults same is calm safe me
     let kept : EndsBefore (view_of m) m past b = same_before m past b calm (same ∙ is) in
     (before_within (view_of m) (moved (view_of m) n (effect_of n o).new) m past b kept, inr (recovers_before (view_of m) m past b kept))
 
-pub fault_moments : (freed : List ℕ → Bool) (n : List ℕ) (fault : StepFault) (a b : Told) (left out err : Option (List ℕ)) → IsSfile n → Faults n fault a b → RecoversOn a b → LeavesFirm a b → (IsErrOf {T = Recovered} (Err fault) Memory → TouchesOnly (is_working n) a b)
-    → StepMoments (recover_action freed) (Err fault) n left (scene a out err) (scene b out err)
-fault_moments freed n fault a b left out err sfile faults story leaves touches = λ m past i is heard calm may.
+pub fault_crash_points : (freed : List ℕ → Bool) (n : List ℕ) (fault : StepFault) (a b : Told) (left out err : Option (List ℕ)) → IsSFileName n → Faults n fault a b → RecoversOn a b → LeavesFirm a b → (IsErrOf {T = Recovered} (Err fault) Memory → TouchesOnly (is_working n) a b)
+    → StepCrashPoints (recover_action freed) (Err fault) n left (scene a out err) (scene b out err)
+fault_crash_points freed n fault a b left out err sfile faults story leaves touches = λ m past i is heard calm may.
     let v : View = view_of m in
     let o : Outcome = recover_outcome freed n (v intent_file ∷ []) (look v n) in
     let met : Meets (λ (done : Unit {0}). 0) (Err fault) n o (world (Some v) out err) (world (seen b) out err) =
@@ -197,12 +197,12 @@ pub made_recovers : (r : Result (Unit {0}) StepFault) (a b : Told) → RecoversO
 made_recovers (Ok done) a b story firm leaves = record { story = story; firm = firm; calm = leaves; keeps = λ other. calm_keeps a b leaves }
 made_recovers (Err fault) a b story firm leaves = record { story = story; firm = firm; calm = tt; keeps = λ other. calm_keeps a b leaves }
 
-fault_keeps : (fault : StepFault) (n : List ℕ) (a b : Told) → IsSfile n → Faults n fault a b → (fault ≡ Memory → TouchesOnly (is_working n) a b) → fault ≢ DiskFault → KeepsCalm a b
+fault_keeps : (fault : StepFault) (n : List ℕ) (a b : Told) → IsSFileName n → Faults n fault a b → (fault ≡ Memory → TouchesOnly (is_working n) a b) → fault ≢ DiskFault → KeepsCalm a b
 fault_keeps (Refused refusal) n a b sfile faults touches other = calm_same a b (faults.refused refusal refl)
 fault_keeps Memory n a b sfile faults touches other = working_calm n a b sfile (touches refl)
 fault_keeps ReadFault n a b sfile faults touches other = absurd (faults.read refl)
 fault_keeps WriteFault n a b sfile faults touches other = absurd (faults.write refl)
 fault_keeps DiskFault n a b sfile faults touches other = absurd (other refl)
 
-pub fault_recovers : (fault : StepFault) (n : List ℕ) (a b : Told) → IsSfile n → Faults n fault a b → RecoversOn a b → LeavesFirm a b → (IsErrOf {T = Recovered} (Err fault) Memory → TouchesOnly (is_working n) a b) → RecoversStep {X = Unit {0}} (Err fault) a b
+pub fault_recovers : (fault : StepFault) (n : List ℕ) (a b : Told) → IsSFileName n → Faults n fault a b → RecoversOn a b → LeavesFirm a b → (IsErrOf {T = Recovered} (Err fault) Memory → TouchesOnly (is_working n) a b) → RecoversStep {X = Unit {0}} (Err fault) a b
 fault_recovers fault n a b sfile faults story firm touches = record { story = story; firm = firm; calm = tt; keeps = λ other. fault_keeps fault n a b sfile faults (λ e. touches (ap Err e)) (λ e. other (ap Err e)) }

@@ -1,4 +1,4 @@
--- The course of a group: the step of the entries that its input is, and what a call says that follows it.
+-- The list of steps of a group: the step of the entries that its input is, and what a call says that follows it.
 use Rattle.std.specs.Prelude.{◌≡◌, ◌⊎◌, ℕ, nat_lt, is_some, true, false, List, [], ◌∷◌, ◌++◌, length, map, codes, decimal, if◌then◌else◌, Option, Result, Ok, Err}
 use Rattle.sccs_base.specs.Constants.{file_limit}
 use Rattle.sccs_base.specs.Cut.{text_of}
@@ -16,8 +16,8 @@ use Rattle.sccs_steps.specs.StepLists.{NamedStep, named_step}
 use Rattle.sccs_steps.specs.declared.faults.Fault.{Fault}
 use Rattle.sccs_steps.specs.declared.faults.Fault.TheVariants as ends
 use Rattle.sccs_steps.specs.declared.statuses.StatusRule.TheVariants.{Greatest}
-use Rattle.sccs_step_lists.specs.Courses.{Courses, course_of, saying}
-use Rattle.sccs_step_lists.specs.Following.{RunsCourse}
+use Rattle.sccs_step_lists.specs.StepLists.{StepLists, step_list_of, saying}
+use Rattle.sccs_step_lists.specs.Following.{RunsStepList}
 use Rattle.sccs_step_lists.specs.Sayings.{BegunSaid, WholeSaid}
 use Rattle.sccs_group_command.specs.GroupText.{group_of}
 use Rattle.sccs_group_command.specs.declared.entries.GroupEntry.{GroupEntry}
@@ -56,9 +56,9 @@ group_parts stamp v entries =
     if is_some (v intent_file) then refused_parts (names_of entries) GroupPending else parts_by (names_of entries) (entry_steps stamp v entries)
 
 -- the one step of all entries; it writes a plan
-abbrev pub entries_course : Stamp → List GroupEntry → Courses
-entries_course stamp entries = λ folder i.
-    course_of
+abbrev pub entries_step_list : Stamp → List GroupEntry → StepLists
+entries_step_list stamp entries = λ folder i.
+    step_list_of
     (record { by = group_action; steps = group_step stamp (view_in folder) entries ∷ []; parts = group_parts stamp (view_in folder) entries; finishes = false; plans = true } ∷ [])
     (group_step stamp (view_in folder) entries).effect.status
 
@@ -68,17 +68,17 @@ entries_course stamp entries = λ folder i.
 abbrev pub bad_line : ℕ → List ℕ
 bad_line number = codes "GROUP: line " ++ (decimal number ++ codes "\n")
 
-abbrev pub read_course : Stamp → Result (List GroupEntry) ℕ → Courses
-read_course stamp (Ok entries) = entries_course stamp entries
-read_course stamp (Err number) = saying [] (bad_line number) 1
+abbrev pub read_step_list : Stamp → Result (List GroupEntry) ℕ → StepLists
+read_step_list stamp (Ok entries) = entries_step_list stamp entries
+read_step_list stamp (Err number) = saying [] (bad_line number) 1
 
 -- the group that an input is; one past the limit is refused
-abbrev pub group_on : Stamp → List ℕ → Courses
+abbrev pub group_on : Stamp → List ℕ → StepLists
 group_on stamp input =
-    if nat_lt file_limit (length input) then saying [] (refusal_line (codes "-") TooLong) 1 else read_course stamp (group_of (text_of input))
+    if nat_lt file_limit (length input) then saying [] (refusal_line (codes "-") TooLong) 1 else read_step_list stamp (group_of (text_of input))
 
-abbrev pub group_course : Stamp → Courses
-group_course stamp = λ folder i. group_on stamp i folder i
+abbrev pub group_step_list : Stamp → StepLists
+group_step_list stamp = λ folder i. group_on stamp i folder i
 
 -- the names of g-files are no others' names
 abbrev pub HasPlainNames : Result (List GroupEntry) ℕ → Type 0
@@ -115,12 +115,12 @@ SaysBad bad.Memory r err err2 = (r ≡ Err ends.Memory) × (err2 ≡ err)
 
 -- a call that makes the group of entries
 abbrev pub RunsEntries : Stamp → List GroupEntry → Result ℕ Fault → Setting → Setting → Type 0
-RunsEntries stamp entries r s t = RunsCourse (entries_course stamp entries) (λ i. ArePlain (names_of entries)) WholeEntries BegunEntries r s t
+RunsEntries stamp entries r s t = RunsStepList (entries_step_list stamp entries) (λ i. ArePlain (names_of entries)) WholeEntries BegunEntries r s t
 
 -- a call that makes the group that lines are
 abbrev pub RunsLines : Stamp → Result (List GroupEntry) ℕ → Result ℕ Fault → Setting → Setting → Type 0
-RunsLines stamp read r s t = RunsCourse (read_course stamp read) (λ i. HasPlainNames read) WholeGroup BegunGroup r s t
+RunsLines stamp read r s t = RunsStepList (read_step_list stamp read) (λ i. HasPlainNames read) WholeGroup BegunGroup r s t
 
 -- a call that makes the group that the input is
 abbrev pub RunsGroup : Stamp → Result ℕ Fault → Setting → Setting → Type 0
-RunsGroup stamp r s t = RunsCourse (group_course stamp) (IsGroupInput s.left) WholeGroup BegunGroup r s t
+RunsGroup stamp r s t = RunsStepList (group_step_list stamp) (IsGroupInput s.left) WholeGroup BegunGroup r s t
