@@ -1,12 +1,11 @@
 -- Description and flags of admin's words: their parts, rules and spelling, and what the checks on a new file answer.
-use Rattle.std.proofs.Common.{◌≡◌, ℕ, suc, ◌==◌, Bool, true, false, cond, List, [], ◌∷◌, Option, None, Some, Result, Ok, Err, refl, sym, ap, subst, ◌∙◌, ⊎_elim}
+use Rattle.std.proofs.Common.{ℕ, suc, ◌==◌, Bool, true, false, cond, List, [], ◌∷◌, Option, None, Some, Result, Ok, Err, refl, sym, ap, subst, ◌∙◌, ⊎_elim}
 use Rattle.std.proofs.lemmas.Bool.{eqb-true, or_cases}
 use Rattle.std.specs.List.{AllByRecursion}
 use Rattle.std.proofs.lemmas.List.Elements.{recursion_from_All}
 use Rattle.sccs_base.specs.Cut.{HasNoLf, text_of}
 use Rattle.sccs_base.proofs.Lines.{text_fit}
 use Rattle.sccs_sid.specs.Reading.{◌>>=◌}
-use Rattle.sccs_sid.specs.Refusal.{number_of}
 use Rattle.sccs_sid.specs.SidLists.{begins}
 use Rattle.sccs_sid.specs.declared.refusals.Refusal.{Refusal}
 use Rattle.sccs_sid.specs.declared.refusals.Refusal.TheVariants.{NoKeywords}
@@ -17,14 +16,13 @@ use Rattle.sccs_history.specs.declared.headers.Flag.{Flag}
 use Rattle.sccs_script.specs.Checks.{bad_line}
 use Rattle.sccs_changes.specs.PFiles.{Answers, PassesCheck}
 use Rattle.sccs_rules.specs.Flags.{changed_flags}
-use Rattle.sccs_steps.specs.Actions.{RefusesWithin, has_number}
+use Rattle.sccs_steps.specs.Actions.{has_number}
 use Rattle.sccs_steps.specs.StepEffects.{check}
 use Rattle.sccs_words.specs.declared.commands.AdminWords.{AdminWords}
 use Rattle.sccs_words.specs.declared.commands.Given.{Given}
 use Rattle.sccs_words.specs.declared.commands.Given.TheVariants.{No, Bare, From}
-use Rattle.sccs_admin.specs.AdminStep.{admin_checks}
 use Rattle.sccs_admin.specs.Parts.{AreRules}
-use Rattle.sccs_admin.specs.Rules.{bare_lines, described, has_wanted_keyword, mrs_fit, new_description, new_flags, new_rules, or_bad_flag, rule_checks}
+use Rattle.sccs_admin.specs.Rules.{bare_lines, described, has_wanted_keyword, mrs_fit, new_description, new_flags, new_rules, or_bad_flag}
 use Rattle.sccs_admin.specs.Texts.{count_lines, counted, or_bad_text}
 use Rattle.sccs_admin.specs.declared.finding.NewTexts.{NewTexts}
 use Rattle.sccs_admin.specs.declared.rules.NewRules.{NewRules}
@@ -42,13 +40,6 @@ wider_checks [] more n all is = absurd cc
 wider_checks (check ∷ checks) more n all is =
     ⊎_elim (λ (same : (check == n) ≡ true). subst (λ m. has_number more m ≡ true) (eqb-true check n same) all.0) (λ (rest : has_number checks n ≡ true). wider_checks checks more n all.1 rest)
     (or_cases (check == n) (has_number checks n) is)
-
-pub refused_again : {T U : Type 0} (fault : StepFault) (refusal : Refusal) → ◌≡◌ {A = Result T StepFault} (Err fault) (Err (step.Refused refusal)) → ◌≡◌ {A = Result U StepFault} (Err fault) (Err (step.Refused refusal))
-refused_again fault refusal is = cc
-
--- a check on description or flags is one of admin's
-pub rule_refused : {T U : Type 0} (fault : StepFault) → RefusesWithin {X = T} rule_checks (Err fault) → RefusesWithin {X = U} admin_checks (Err fault)
-rule_refused fault within = λ refusal is. wider_checks rule_checks admin_checks (number_of refusal) (refl, (refl, tt)) (within refusal (refused_again fault refusal is))
 
 -- ---- descriptions
 
@@ -101,9 +92,6 @@ pub record HasRules (words : AdminWords) (texts : NewTexts) (rules : NewRules) :
 
 same_rules : (r : Result NewRules Refusal) (a b : NewRules) → r ≡ Ok a → r ≡ Ok b → b ≡ a
 same_rules r a b first second = cc
-
-same_flags : (r : Result (List Flag) Refusal) (a b : List Flag) → r ≡ Ok a → r ≡ Ok b → a ≡ b
-same_flags r a b first second = cc
 
 flags_are : (words : AdminWords) (flags : List Flag) → new_flags words ≡ Ok flags → changed_flags [] words.set words.unset ≡ Ok flags
 unfolding new_flags

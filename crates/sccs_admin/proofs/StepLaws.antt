@@ -1,51 +1,33 @@
 -- What admin finds of the texts of a new file.
 use Rattle.std.proofs.Common.{◌≡◌, ℕ, ◌<◌, ◌≤◌, ◌⊎◌, true, false, List, [], ◌∷◌, ◌++◌, length, map, drop, Option, None, Some, IsSome, Result, Ok, Err, inl, inr, refl, sym, ap, subst, ◌∙◌, arith}
-use Rattle.std.specs.Prelude.{nat_le, option_map, is_none}
+use Rattle.std.specs.Prelude.{nat_le, is_none}
 use Rattle.std.specs.Result.{IsErrAnd}
 use Rattle.std.proofs.lemmas.Result.{err_from_is_err_and}
 use Rattle.std.proofs.lemmas.Bool.Decides.{leb_tells}
 use Rattle.std.proofs.lemmas.Bool.{le-leb}
 use Rattle.sccs_base.specs.Constants.{file_limit}
-use Rattle.sccs_name_files.specs.WholeFiles.{AnswersWhole}
 use Rattle.sccs_name_files.specs.declared.whole_files.WholeFault.TheVariants as whole
 use Rattle.sccs_changes.specs.Changes.{unlocked}
 use Rattle.sccs_sid.specs.Reading.{◌>>=◌}
 use Rattle.sccs_sid.specs.declared.refusals.Refusal.{Refusal}
-use Rattle.sccs_sid.specs.declared.refusals.Refusal.TheVariants.{Exists, Missing}
+use Rattle.sccs_sid.specs.declared.refusals.Refusal.TheVariants.{Exists}
 use Rattle.sccs_sid.specs.declared.refusals.Refusal.TheVariants as refusals
 use Rattle.sccs_sid.specs.declared.refusals.StepFault.{StepFault}
 use Rattle.sccs_sid.specs.declared.refusals.StepFault.TheVariants.{Refused, Memory, ReadFault, WriteFault, DiskFault}
 use Rattle.sccs_disk.specs.Files.{Content, View}
-use Rattle.sccs_disk.specs.Reads.{Measures}
 use Rattle.sccs_steps.specs.Actions.{IsHeard}
 use Rattle.sccs_steps.specs.StepEffects.{check}
 use Rattle.sccs_words.specs.declared.commands.AdminWords.{AdminWords}
 use Rattle.sccs_words.specs.declared.commands.Given.{Given}
 use Rattle.sccs_words.specs.declared.commands.Given.TheVariants.{No, Bare, From}
 use Rattle.sccs_admin.specs.AdminStep.{found_texts, named_in}
-use Rattle.sccs_admin.specs.Parts.{AnswersTexts, FindsNamed, FindsTexts, IsFound, IsFresh, ReadsNamed, TakesText, whole_text}
+use Rattle.sccs_admin.specs.Parts.{AnswersTexts, FindsNamed, FindsTexts, IsFound, IsFresh, TakesText, whole_text}
 use Rattle.sccs_admin.specs.Texts.{named_by, source, takes_input}
 use Rattle.sccs_admin.specs.declared.finding.Found.{Found}
 use Rattle.sccs_admin.specs.declared.finding.Found.TheVariants.{Whole, TooLong}
 use Rattle.sccs_admin.specs.declared.finding.NewTexts.{NewTexts}
 
 -- ---- the text
-
-pub fresh_measured : (n : List ℕ) (told : Option View) → Measures told n None → IsFresh (Ok tt) n told
-fresh_measured n None is = tt
-fresh_measured n (Some v) is = none_measured (v n) is
-  where
-    none_measured : (o : Option Content) → None ≡ option_map (λ (c : Content). length c.bytes) o → o ≡ None
-    none_measured None is = refl
-    none_measured (Some c) is = absurd (cc)
-
-pub there_measured : (n : List ℕ) (told : Option View) (size : ℕ) → Measures told n (Some size) → IsFresh (Err (Refused Exists)) n told
-there_measured n None size is = (refl, tt)
-there_measured n (Some v) size is = (refl, some_measured (v n) is)
-  where
-    some_measured : (o : Option Content) → Some size ≡ option_map (λ (c : Content). length c.bytes) o → IsSome o
-    some_measured None is = absurd (cc)
-    some_measured (Some c) is = refl
 
 pub within : (n m : ℕ) → n ≤ m → nat_le n m ≡ true
 within n m low = le-leb n m low
@@ -62,38 +44,6 @@ pub exit_is : {A : Type 0} (result : Result A StepFault) (fault : StepFault) →
 exit_is result fault left = let p = err_from_is_err_and result left in p.1 ∙ ap Err p.2
 
 -- ---- the text of a file that is named
-
-absent_source : (file : List ℕ) (o : Option Content) → o ≡ None → source (From file) [] (o ∷ []) ≡ Err Missing
-absent_source file None is = refl
-absent_source file (Some c) is = absurd cc
-
-short_source : (file text : List ℕ) (o : Option Content) → AnswersWhole o (Ok text) → source (From file) [] (o ∷ []) ≡ Ok text
-short_source file text None answers = absurd answers
-short_source file text (Some c) answers = ap Ok (sym answers.0)
-
-long_source : (file : List ℕ) (o : Option Content) → AnswersWhole o (Err whole.TooLong) → IsFound (source (From file) [] (o ∷ [])) (Ok TooLong)
-long_source file None answers = absurd answers
-long_source file (Some c) answers = (c.bytes, refl, answers)
-
-pub named_found : (file n text : List ℕ) (o : Option View) → ReadsNamed (Ok text) file n o → FindsNamed (Ok (Whole text)) (From file) n o
-named_found file n text None reads = tt
-named_found file n text (Some v) reads = short_source file text (unlocked n v file) reads
-
-pub named_too_long : (file n : List ℕ) (o : Option View) → ReadsNamed (Err whole.TooLong) file n o → FindsNamed (Ok TooLong) (From file) n o
-named_too_long file n None reads = tt
-named_too_long file n (Some v) reads = long_source file (unlocked n v file) reads
-
-pub named_missing : (file n : List ℕ) (o : Option View) → ReadsNamed (Err whole.Missing) file n o → FindsNamed (Err (Refused Missing)) (From file) n o
-named_missing file n None reads = tt
-named_missing file n (Some v) reads = absent_source file (unlocked n v file) reads
-
-pub none_named : (n text : List ℕ) (o : Option View) → text ≡ [] → FindsNamed (Ok (Whole text)) No n o
-none_named n text None is = tt
-none_named n text (Some v) is = ap Ok (sym is)
-
-pub bare_named : (n text : List ℕ) (o : Option View) → text ≡ [] → FindsNamed (Ok (Whole text)) Bare n o
-bare_named n text None is = tt
-bare_named n text (Some v) is = ap Ok (sym is)
 
 -- ---- both texts, from what was found of each
 

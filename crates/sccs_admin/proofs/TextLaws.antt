@@ -1,12 +1,11 @@
 -- The lines of a text, counted, and the LF that it lacks.
-use Rattle.std.proofs.Common.{◌≡◌, ℕ, suc, ◌+◌, ◌-◌, ◌<◌, ◌≤◌, ◌==◌, Bool, true, false, cond, List, [], ◌∷◌, ◌++◌, length, get_or, Some, Ok, Err, refl, sym, ap, ◌∙◌, arith, add-one, length-append}
+use Rattle.std.proofs.Common.{◌≡◌, ℕ, suc, ◌+◌, ◌-◌, ◌<◌, ◌≤◌, ◌==◌, Bool, true, false, cond, List, [], ◌∷◌, ◌++◌, length, get_or, refl, sym, ap, ◌∙◌, arith, length-append}
 use Rattle.std.proofs.lemmas.Bool.{ne_eqb}
 use Rattle.sccs_table.proofs.RunLaws.{cut_joined}
 use Rattle.sccs_base.specs.Cut.{cut, closed, text_of, without_lf}
 use Rattle.sccs_sid.specs.SidLists.{begins}
 use Rattle.sccs_tokens.specs.Written.{bytes_of, ended}
-use Rattle.sccs_script.specs.Checks.{bad_line}
-use Rattle.sccs_admin.specs.Texts.{count_lines, counted, lacking}
+use Rattle.sccs_admin.specs.Texts.{lacking}
 
 -- whether a line begins with SOH doesn't hang on its LF
 by_lf : (b : ℕ) (t : Bool) → (b == 10) ≡ t → (b == 1) ≡ begins 1 (cond t [] (b ∷ []))
@@ -32,21 +31,6 @@ no_control [] none = refl
 no_control (b ∷ line) none = absurd (filled (length line) none)
 
 -- ---- counting
-
-found_at : (lines : List (List ℕ)) (line : ℕ) → bad_line 0 lines ≡ Some line → Err line ≡ count_lines lines
-found_at lines line is = sym (ap (counted lines) is)
-
--- a line that begins with SOH is the first one
-pub first_control : (lines rest : List (List ℕ)) (line : List ℕ) (count : ℕ) → bad_line count (line ∷ rest) ≡ bad_line 0 lines → begins 1 line ≡ true → Err (count + 1) ≡ count_lines lines
-first_control lines rest line count same is =
-    found_at lines (count + 1) (sym same ∙ (ap (λ t. cond t (Some (suc count)) (bad_line (suc count) rest)) is ∙ ap Some (sym (add-one count))))
-
-pub other_line : (lines rest : List (List ℕ)) (line : List ℕ) (count : ℕ) → bad_line count (line ∷ rest) ≡ bad_line 0 lines → begins 1 line ≡ false → bad_line (count + 1) rest ≡ bad_line 0 lines
-other_line lines rest line count same is =
-    ap (λ n. bad_line n rest) (add-one count) ∙ (sym (ap (λ t. cond t (Some (suc count)) (bad_line (suc count) rest)) is) ∙ same)
-
-pub none_control : (lines : List (List ℕ)) (count : ℕ) → bad_line count [] ≡ bad_line 0 lines → count ≡ length lines → Ok count ≡ count_lines lines
-none_control lines count same all = ap Ok all ∙ sym (ap (counted lines) (sym same))
 
 -- ---- the last line
 

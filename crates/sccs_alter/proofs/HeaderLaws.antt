@@ -1,6 +1,5 @@
 -- The altered header: its parts, its rules and its spelling.
 use Rattle.std.proofs.Common.{◌≡◌, ℕ, List, Result, Ok, Err, refl, sym, ap, subst}
-use Rattle.sccs_sid.specs.Refusal.{number_of}
 use Rattle.sccs_sid.specs.declared.refusals.Refusal.{Refusal}
 use Rattle.sccs_sid.specs.declared.refusals.StepFault.{StepFault}
 use Rattle.sccs_sid.specs.declared.refusals.StepFault.TheVariants as step
@@ -8,15 +7,14 @@ use Rattle.sccs_changes.specs.PFiles.{Answers}
 use Rattle.sccs_history.specs.History.{IsHeader, IsSpelled}
 use Rattle.sccs_history.specs.declared.headers.Flag.{Flag}
 use Rattle.sccs_history.specs.declared.headers.Header.{Header}
-use Rattle.sccs_steps.specs.Actions.{RefusesWithin}
 use Rattle.sccs_rules.specs.Flags.{changed_flags}
 use Rattle.sccs_rules.specs.Rules.{with_rules}
 use Rattle.sccs_rules.specs.Users.{changed_users}
 use Rattle.sccs_rules.proofs.FlagRules.{header_kept, spelled_kept}
 use Rattle.sccs_words.specs.declared.commands.AdminWords.{AdminWords}
-use Rattle.sccs_admin.specs.Rules.{described, or_bad_flag, rule_checks}
-use Rattle.sccs_admin.proofs.RuleLaws.{described_bare, described_lines, flags_ok, passed, refused_again, wider_checks}
-use Rattle.sccs_alter.specs.AlterStep.{alter_checks, altered_header}
+use Rattle.sccs_admin.specs.Rules.{described, or_bad_flag}
+use Rattle.sccs_admin.proofs.RuleLaws.{described_bare, described_lines, flags_ok, passed}
+use Rattle.sccs_alter.specs.AlterStep.{altered_header}
 
 -- What an altered header is made of.
 pub record HasParts (words : AdminWords) (h : Header) (text : List ℕ) (new : Header) : Type 0 where
@@ -80,7 +78,3 @@ pub all_altered : (words : AdminWords) (h : Header) (text : List ℕ) (descripti
     → users ≡ changed_users h.users words.add words.erase → altered_header words h text ≡ Ok (with_rules h users flags description)
 unfolding altered_header
 all_altered words h text description users flags is set same = rw (is, set) (ap (λ us. Ok (with_rules h us flags description)) (sym same))
-
--- a check on description or flags is one of this step
-pub rule_refused : {T U : Type 0} (fault : StepFault) → RefusesWithin {X = T} rule_checks (Err fault) → RefusesWithin {X = U} alter_checks (Err fault)
-rule_refused fault within = λ refusal is. wider_checks rule_checks alter_checks (number_of refusal) (refl, (refl, tt)) (within refusal (refused_again fault refusal is))

@@ -29,10 +29,6 @@ onto_more : (given : List Item) (item : Item) (read : Result (List Item) ℕ) �
 onto_more given item (Ok items) = ap Ok (sym (append_assoc given (item ∷ []) items))
 onto_more given item (Err k) = refl
 
-pub reached_start : (o : Option (List ℕ)) (live : List ℕ) (begun : BodyPlace) → Reached o live begun [] begun
-reached_start None live begun = tt
-reached_start (Some file) live begun = λ stands. (stands, ([], onto_none _))
-
 pub items_on : (live : List ℕ) (n : ℕ) (before : List Item) (item : Item) (line : List ℕ) (lines : List (List ℕ)) (tail : List ℕ) → item_at live before line ≡ Some item → items_from live n before (line ∷ lines) tail ≡ (items_from live (suc n) (item ∷ before) lines tail >>= λ items. Ok (item ∷ items))
 unfolding items_from
 items_on live n before item line lines tail is = rw is refl
@@ -63,9 +59,6 @@ reached_end (Some file) p live begun before now new is reached gives = λ stands
 -- the reader stands behind some items, from which reading goes on
 abbrev pub Somewhere : Option (List ℕ) → List ℕ → BodyPlace → BodyPlace → Type 0
 Somewhere o live begun now = (now.from ≤ now.lines.place) × ((before : List Item) × HasBehind live before now × Reached o live begun before now)
-
-pub somewhere_start : (o : Option (List ℕ)) (live : List ℕ) (begun : BodyPlace) → begun.from ≤ begun.lines.place → HasBehind live [] begun → Somewhere o live begun begun
-somewhere_start o live begun low behind = (low, ([], behind, reached_start o live begun))
 
 still_low : (now new : BodyPlace) → KeepsBody now new → now.from ≤ now.lines.place → now.lines.place ≤ new.lines.place → new.from ≤ new.lines.place
 still_low now new kept low onward = omega (arith, kept.from, low, onward)

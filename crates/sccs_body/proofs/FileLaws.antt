@@ -1,9 +1,8 @@
 -- What the parts of a reading make of the answer for a whole file.
 use Rattle.std.proofs.Common.{◌≡◌, ℕ, Bool, true, false, List, [], length, drop, Option, None, Some, Result, Ok, Err, refl, sym, ap, ◌∙◌, subst}
-use Rattle.std.specs.Prelude.{IfSome, if◌then◌else◌, nat_lt}
+use Rattle.std.specs.Prelude.{if◌then◌else◌, nat_lt}
 use Rattle.sccs_base.specs.Cut.{Cut, cut}
 use Rattle.sccs_sid.specs.Reading.{◌>>=◌}
-use Rattle.sccs_disk.specs.Files.{View}
 use Rattle.sccs_history.specs.Applied.{live_serials}
 use Rattle.sccs_history.specs.History.{is_encoded}
 use Rattle.sccs_history.specs.Body.{GoesOn}
@@ -15,7 +14,6 @@ use Rattle.sccs_grammar.specs.File.{Parsed, as_format, answer, within_limit, che
 use Rattle.sccs_grammar.specs.declared.faults.FileFault.{FileFault}
 use Rattle.sccs_grammar.specs.declared.faults.FileFault.TheVariants.{Missing, TooLong, NotSccs, BadSum, BadFormat, Encoded, Changed, Failed, Memory}
 use Rattle.sccs_table.specs.declared.fronts.Front.{Front}
-use Rattle.sccs_table.specs.ReaderState.{bytes_in, file_in}
 use Rattle.sccs_table.specs.FrontFile.{Refuses, IsFrontOf, AnswersFront}
 use Rattle.sccs_body.proofs.ReadBodies.{body_read}
 use Rattle.sccs_body.specs.BodyFile.{items_of, ChecksFile, ChecksItems, AnswersFile}
@@ -65,10 +63,6 @@ refusal_stays o (Changed a b c d) is = is
 refusal_stays o Failed is = tt
 refusal_stays o Memory is = tt
 
-pub front_refused : (view : Option View) (name : List ℕ) (e : FileFault) → IfSome view (λ v. AnswersFront (file_in v name) checked_front (Err e)) → IfSome view (λ v. AnswersFile (file_in v name) (Err e))
-front_refused None name e answers = tt
-front_refused (Some view) name e answers = refusal_stays (file_in view name) e answers
-
 -- a front was read, so the file is within the limit
 read_by : (long : Bool) (file : List ℕ) (p : ParsedFront) → ((if long then Err TooLong else Ok file) >>= checked_front) ≡ Ok p → ((if long then Err TooLong else Ok file) ≡ Ok file) × (checked_front file ≡ Ok p)
 read_by true file p is = cc
@@ -97,10 +91,6 @@ pub refused_in : (o : Option (List ℕ)) (front : Front) (e : FileFault) → Ans
 refused_in None front e answers checks = absurd answers.2
 refused_in (Some file) front e answers checks = lines_refused file answers.0 front e answers.1 answers.2 (checks answers.2.size)
 
-pub body_refused : (view : Option View) (name : List ℕ) (front : Front) (e : FileFault) → IfSome view (λ v. AnswersFront (file_in v name) checked_front (Ok front)) → ChecksItems (bytes_in view name) front (Err e) → IfSome view (λ v. AnswersFile (file_in v name) (Err e))
-body_refused None name front e answers checks = tt
-body_refused (Some view) name front e answers checks = refused_in (file_in view name) front e answers checks
-
 -- ---- whether the body is encoded
 
 pub encoded_in : (o : Option (List ℕ)) (front : Front) → is_encoded front.header.flags ≡ true → AnswersFront o checked_front (Ok front) → ChecksItems o front (Ok tt) → AnswersFile o (Err Encoded)
@@ -109,10 +99,6 @@ encoded_in (Some file) front is answers checks =
     let items = checks answers.2.size in
     let encoded = encoded_so front answers.0 true answers.2.header is in
     answer_found file answers.0 front (Ok items.0) answers.1 answers.2 items.1 ∙ rw encoded refl
-
-pub file_encoded : (view : Option View) (name : List ℕ) (front : Front) → is_encoded front.header.flags ≡ true → IfSome view (λ v. AnswersFront (file_in v name) checked_front (Ok front)) → ChecksItems (bytes_in view name) front (Ok tt) → IfSome view (λ v. AnswersFile (file_in v name) (Err Encoded))
-file_encoded None name front is answers checks = tt
-file_encoded (Some view) name front is answers checks = encoded_in (file_in view name) front is answers checks
 
 pub plain_in : (o : Option (List ℕ)) (front : Front) → is_encoded front.header.flags ≡ false → AnswersFront o checked_front (Ok front) → ChecksItems o front (Ok tt) → AnswersFile o (Ok front)
 plain_in None front is answers checks = absurd answers.2
@@ -124,14 +110,6 @@ plain_in (Some file) front is answers checks =
       answer_found file answers.0 front (Ok items.0) answers.1 answers.2 items.1 ∙ rw plain refl,
       (answers.2.header, (p, (was_read file p answers.1).1, answers.2)),
     )
-
-pub file_plain : (view : Option View) (name : List ℕ) (front : Front) → is_encoded front.header.flags ≡ false → IfSome view (λ v. AnswersFront (file_in v name) checked_front (Ok front)) → ChecksItems (bytes_in view name) front (Ok tt) → IfSome view (λ v. AnswersFile (file_in v name) (Ok front))
-file_plain None name front is answers checks = tt
-file_plain (Some view) name front is answers checks = plain_in (file_in view name) front is answers checks
-
--- the view stayed, so what a call found is found in the first one
-pub found_in : (old new : Option View) (name : List ℕ) (front : Front) (result : Result (Unit {0}) FileFault) → new ≡ old → ChecksItems (bytes_in new name) front result → ChecksItems (bytes_in old name) front result
-found_in old new name front result same found = subst (λ v. ChecksItems (bytes_in v name) front result) same found
 
 -- ---- the items of a file that was read
 

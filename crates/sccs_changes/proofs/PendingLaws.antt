@@ -155,10 +155,6 @@ file_ends o o2 n k bytes fault ended same sizes is answers = by o sizes (subst (
     by None sizes answers = tt
     by (Some v) sizes answers = subst (λ f. AnswersPending (v n) (v k) (Err f)) (sym is) (file_answers (v n) (v k) bytes fault sizes.0 sizes.1 answers)
 
--- the file that was read
-abbrev ReadFile : View → List ℕ → Front → Type 0
-ReadFile v n front = (parsed : Parsed) × (answer file_of (bytes_at (v n)) ≡ Ok parsed) × ShowsFile (bytes_at (v n)) parsed front
-
 pub shown_header : (o : Option (List ℕ)) (parsed : Parsed) (front : Front) → ShowsFile o parsed front → front.header ≡ parsed.header
 shown_header None parsed front shows = absurd shows
 shown_header (Some file) parsed front shows = shows.0

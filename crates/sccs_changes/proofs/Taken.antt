@@ -31,12 +31,6 @@ x_alone n p (Some u) (Some v) new moves = record {
   y = untouched p.new_g _ _ (moves (y_file n) refl);
 }
 
--- a change that makes no working file
-pub none_made : (n : List ℕ) (p : Prepared) (o o2 : Option View) → o2 ≡ o → IfSome o (λ u. IfSome o2 (λ v. AreTakenOrGone n (plan_of p) u v))
-none_made n p None o2 same = tt
-none_made n p (Some u) o2 same =
-    subst (λ (o : Option View). IfSome o (λ v. AreTakenOrGone n (plan_of p) u v)) (sym same) (record { x = untouched (replaced p.new_s) _ _ refl; q = untouched p.new_p _ _ refl; y = untouched p.new_g _ _ refl })
-
 -- ---- what a commit leaves
 
 -- gone, or as it was

@@ -4,7 +4,6 @@ use Rattle.std.specs.Result.{IsErrAnd}
 use Rattle.std.proofs.lemmas.Result.{err_from_is_err_and}
 use Rattle.sccs_base.specs.Stream.{Rose}
 use Rattle.sccs_disk.specs.Told.{Told}
-use Rattle.sccs_disk.specs.Calls.{IsThere}
 use Rattle.sccs_disk.specs.declared.disks.DiskRefusal.{DiskRefusal}
 use Rattle.sccs_disk.specs.declared.disks.DiskRefusal.TheVariants as refusals
 use Rattle.sccs_grammar.specs.declared.faults.FileFault.{FileFault}
@@ -111,10 +110,6 @@ some_both w w2 w3 a b c f g h q done r is first second = record {
     both : {T : Type 0} (r : Result T FileFault) → OnOk r (Puts second.text w2 w3 b c) → OnOk r (Puts (first.text ++ second.text) w w3 a c)
     both (Ok x) p = puts_both first.text second.text w w2 w3 a b c (ok_of (Puts first.text w w2 a b) q done is first.ok) p
     both (Err e) p = tt
-
--- the writer's file is still there
-pub some_there : {T : Type 0} (w w2 : Writer) (a b : Told) (f g : ℕ) (r : Result T FileFault) → PutsSome w w2 a b f g r → IsThere w.name a → IsThere w2.name b
-some_there w w2 a b f g r puts there = subst (λ n. IsThere n b) (sym puts.name) (puts.only.there there)
 
 -- ---- of a told file
 

@@ -14,15 +14,13 @@ use Rattle.sccs_splicer.proofs.Pushes.{count_both, shown_lines}
 use Rattle.sccs_versions.specs.Regions.{Holds}
 use Rattle.sccs_versions.specs.declared.regions.Region.{Region}
 use Rattle.sccs_writers.specs.Puts.{PutsText, Writer}
-use Rattle.sccs_writers.specs.Spelled.{spelled}
 use Rattle.sccs_writers.proofs.OneFile.{only_none}
 use Rattle.sccs_writers.proofs.PutLaws.{puts_none, same_text}
 use Rattle.sccs_splicer.proofs.Spelling.{spelled_one}
 use Rattle.sccs_tokens.specs.Written.{ended, item_line}
 use Rattle.sccs_copies.specs.BaseSplicing.{base_splicing, counted_output}
-use Rattle.sccs_copies.specs.Filters.{Filter, Filters, Finishes, TakesItem, identity, items_before}
+use Rattle.sccs_copies.specs.Filters.{Filters, Finishes, TakesItem, identity, items_before}
 use Rattle.sccs_copies.specs.declared.base_splicers.BaseSplicer.{BaseSplicer}
-use Rattle.sccs_copies.proofs.FilterLaws.{text_as}
 
 -- ---- what is owed, where the lines are as many as were counted
 
@@ -68,14 +66,6 @@ base_takes b s2 regions2 item visible w w2 a c f g r take shown p = record { ite
         }
     on_goes (Err refusal) goes = tt
 
--- no memory is left for the open regions
-pub base_stuck : {F T : Type 0} (filter : Filter F) (item : Item) (f f2 : F) (w : Writer) (t : Told) (k : ℕ) → TakesItem {T = T} filter item f f2 w w t t k k (Err refusals.Memory)
-base_stuck filter item f f2 w t k = record {
-  items = [];
-  puts = record { ok = tt; name = refl; only = only_none w.name t; later = omega arith; cause = λ failed. absurd cc };
-  filters = tt;
-}
-
 -- ---- behind the last item
 
 pub nothing_put : {T : Type 0} (x : T) (w : Writer) (t : Told) (k : ℕ) → PutsText {T = T} [] w w t t k k (Ok x)
@@ -104,14 +94,6 @@ base_refuses b w t k other = record {
   items = [];
   puts = nothing_put false w t k;
   ends = λ before holds. none_counted b.splicer b.lines [] (λ is. other (sym (no_more b.splicer.line) ∙ is));
-}
-
-pub base_ends : {T : Type 0} (b : BaseSplicer) (w w2 : Writer) (a c : Told) (f g : ℕ) (r : Result T DiskRefusal) (done : T) → r ≡ Ok done → b.splicer.line ≡ b.lines → PutsText (spelled (items_owed b.splicer [])) w w2 a c f g r
-    → Finishes base_splicing b w w2 a c f g (Ok true)
-base_ends b w w2 a c f g r done is same puts = record {
-  items = items_owed b.splicer [];
-  puts = text_as (spelled (items_owed b.splicer [])) w w2 a c f g r done true is puts;
-  ends = λ before holds. all_counted b.splicer b.lines [] (no_more b.splicer.line ∙ same);
 }
 
 -- ---- what the output is

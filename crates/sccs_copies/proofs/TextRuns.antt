@@ -35,9 +35,6 @@ texts_pass f before lines stands = record { behind = tt; goes = λ rest. refl }
 pub no_texts_put : (wanted : Bool) (texts : List ℕ) (w : Writer) (t : Told) (k : ℕ) → wanted ≡ false → PutsText {T = Unit {0}} (if wanted then texts else []) w w t t k k (Ok tt)
 no_texts_put wanted texts w t k is = subst (λ b. PutsText {T = Unit {0}} (if b then texts else []) w w t t k k (Ok tt)) (sym is) (nothing_put tt w t k)
 
-pub texts_put : {T : Type 0} (wanted : Bool) (texts : List ℕ) (w w2 : Writer) (a b : Told) (g h : ℕ) (r : Result T DiskRefusal) → wanted ≡ true → PutsText texts w w2 a b g h r → PutsText (if wanted then texts else []) w w2 a b g h r
-texts_put wanted texts w w2 a b g h r is puts = subst (λ t. PutsText (if t then texts else []) w w2 a b g h r) (sym is) puts
-
 -- ---- a run
 
 spelled_if : (wanted : Bool) (run : List ℕ) → (cut run).tail ≡ [] → (if wanted then run else []) ≡ spelled (if wanted then map Text (cut run).lines else [])

@@ -178,26 +178,6 @@ unlocked_more n [] added m was = unlocked_now n added m was
 unlocked_more n (a ∷ later) added m (inl now) = inl now
 unlocked_more n (a ∷ later) added m (inr was) = inr (unlocked_more n later added m was)
 
-come_joined : (later added : List Model) (m : Model) → ComeUnlocked added m → ComeUnlocked later (newest added m) → ComeUnlocked (later ++ added) m
-come_joined [] added m first next = first
-come_joined (a ∷ later) added m first next = (
-  λ n sfile. ⊎_elim (λ same. inl (same ∙ ap (λ (x : Model). pair_of (view_of x) n) (sym (newest_more later added m)))) (λ was. inr (unlocked_more n later added m was)) (next.0 n sfile),
-  come_joined later added m first next.1,
-)
-
-pub unlocked_then : (a b c : Told) → BeginsUnlocked a b → BeginsUnlocked b c → BeginsUnlocked a c
-unlocked_then a b c first next m past is = joined (first m past is)
-  where
-    joined : BeganUnlocked m past b → BeganUnlocked m past c
-    joined one = again (next (newest one.added m) (earlier one.added m past) one.is)
-      where
-        again : BeganUnlocked (newest one.added m) (earlier one.added m past) c → BeganUnlocked m past c
-        again two = record {
-          added = two.added ++ one.added;
-          is = joined_is m past one.added two.added c two.is;
-          changes = come_joined two.added one.added m one.changes two.changes;
-        }
-
 pub unlocked_same : (a b : Told) → b ≡ a → BeginsUnlocked a b
 unlocked_same a b same m past is = record { added = []; is = same ∙ is; changes = tt }
 

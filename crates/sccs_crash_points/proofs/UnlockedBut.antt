@@ -27,17 +27,6 @@ but_of exempt a b begins m past is = by (begins m past is)
 pub but_same : (exempt : List ℕ → Bool) (a b : Told) → b ≡ a → BeginsUnlockedBut exempt a b
 but_same exempt a b same m past is = record { added = []; is = same ∙ is; changes = tt }
 
--- where no name is exempt
-come_all : (exempt : List ℕ → Bool) (added : List Model) (m : Model) → ((n : List ℕ) → exempt n ≡ false) → ComeUnlockedBut exempt added m → ComeUnlocked added m
-come_all exempt [] m none come = tt
-come_all exempt (a ∷ added) m none come = (λ n sfile. come.0 n sfile (none n), come_all exempt added m none come.1)
-
-pub all_of : (exempt : List ℕ → Bool) (a b : Told) → ((n : List ℕ) → exempt n ≡ false) → BeginsUnlockedBut exempt a b → BeginsUnlocked a b
-all_of exempt a b none begins m past is = by (begins m past is)
-  where
-    by : BeganUnlockedBut exempt m past b → BeganUnlocked m past b
-    by began = record { added = began.added; is = began.is; changes = come_all exempt began.added m none began.changes }
-
 -- ---- one call after another
 
 but_joined : (exempt : List ℕ → Bool) (later added : List Model) (m : Model) → ComeUnlockedBut exempt added m → ComeUnlockedBut exempt later (newest added m) → ComeUnlockedBut exempt (later ++ added) m

@@ -134,9 +134,6 @@ fits_longer (order ∷ orders) count more ordered fits =
 
 -- ---- the plan
 
-bases : ℕ → List Cell
-bases count = replicate count (Base false)
-
 bases_there : (count : ℕ) → there (replicate count (Base false)) ≡ count
 bases_there zero = refl
 bases_there (suc count) = ap suc (bases_there count)

@@ -65,9 +65,6 @@ use Rattle.sccs_versions.specs.Regions.{Holds}
 use Rattle.sccs_delta.specs.Writing.{IsSfileOf, MakesDelta, MakesSfile, WritesDelta, WritesFiles, WritesX}
 use Rattle.sccs_changes.proofs.Preparing.{firm_kept}
 
-pub x_written : (h : Header) (items : List Item) (n : List ℕ) (old new : Option View) (done : Unit {0}) → MakesFile h items n old new (Ok done) → WritesX h items n old new (Ok done)
-x_written h items n old new done makes = makes
-
 pub x_unwritten : (h : Header) (items : List Item) (n : List ℕ) (old new : Option View) (fault : FileFault) (ended : StepFault) → MakesFile h items n old new (Err fault) → ended ≡ file_fault fault → WritesX h items n old new (Err ended)
 x_unwritten h items n old new files.Failed ended outer is = subst (λ e. WritesX h items n old new (Err e)) (sym is) tt
 x_unwritten h items n old new files.Memory ended outer is = subst (λ e. WritesX h items n old new (Err e)) (sym is) tt

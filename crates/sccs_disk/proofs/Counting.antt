@@ -6,7 +6,7 @@ use Rattle.std.proofs.lemmas.List.{take-append-le}
 use Rattle.sccs_base.specs.Stream.{last_count, one_more}
 use Rattle.sccs_disk.specs.Files.{Model, IsSane}
 use Rattle.sccs_disk.specs.MemoryFiles.{model_of, model_after, told_after, noted}
-use Rattle.sccs_disk.specs.MemoryDisks.{GoesByPlan, KeepsPlan, disk_call, disk_after, IsPlanned}
+use Rattle.sccs_disk.specs.MemoryDisks.{IsPlanned}
 use Rattle.sccs_disk.specs.States.{State, state}
 use Rattle.sccs_disk.specs.declared.changes.Change.{Change}
 use Rattle.sccs_disk.specs.declared.memory_disk.MemoryDisk.{MemoryDisk}
@@ -40,30 +40,6 @@ pub noted_before : (s : State) (call room calls k : ℕ) (log new : List (Option
     → model_after (model_of s) (take k new) ≡ model_after (model_of s) (take k log)
 noted_before s call room calls k log new is next count most low =
     ap (λ l. model_after (model_of s) (take k l)) is ∙ front_kept (nat_le call room) (model_of s) log k (within_room call room calls k log next count most low)
-
--- another word for the failure
-pub by_plan : {A B : Type 0} (old new : MemoryDisk) → (B → A) → (A → B) → GoesByPlan A old new → GoesByPlan B old new
-by_plan old new f g p = record {
-  planned = (λ b. p.planned.0 (f b), λ x. g (p.planned.1 x));
-  still = λ b. p.still (f b);
-  call = p.call;
-  before = p.before;
-  plan = p.plan;
-  room = p.room;
-  stop = p.stop;
-}
-
--- a call that was counted and didn't fail goes on
-pub plan_then : {A B : Type 0} (old mid new : MemoryDisk) → (A → ⊥) → (B → ⊥) → GoesByPlan A old mid → KeepsPlan mid new → ((k : ℕ) → k ≤ disk_call old → disk_after new k ≡ disk_after mid k) → GoesByPlan B old new
-plan_then old mid new goes goes_on p q before = record {
-  planned = (λ b. absurd (goes_on b), λ x. absurd (goes (p.planned.1 (subst (IsPlanned old) q.call x))));
-  still = λ b. absurd (goes_on b);
-  call = q.call ∙ p.call;
-  before = λ k low. before k low ∙ p.before k low;
-  plan = q.plan ∙ p.plan;
-  room = q.room ∙ p.room;
-  stop = q.stop ∙ p.stop;
-}
 
 pub planned_at : (disk : MemoryDisk) (failing : List ℕ) (call : ℕ) → failing ≡ disk.failing.items → Contains failing call ⊎ ((disk.room < call) ⊎ (disk.stop < call)) → IsPlanned disk call
 planned_at disk failing call is planned = subst (λ l. Contains l call ⊎ ((disk.room < call) ⊎ (disk.stop < call))) is planned

@@ -139,9 +139,6 @@ shown_without names files p n paired once at = fun_ext (λ k.
     ∙ (ap (option_map content) (files_without names (map stored files) p n k (paired ∙ sym (length-map files stored)) once at)
     ∙ content_unless (bytes_eq n k) (file_at (map stored files) (place_of names k))))
 
-pub shown_absent : (s : State) (n : List ℕ) → s.names n ≡ None → shown s ≡ put (shown s) n None
-shown_absent s n none = sym (put_back (shown s) n) ∙ ap (λ t. put (shown s) n (option_map content (file_at s.files t))) none
-
 -- a file that goes away before another one takes its name
 pub renamed_again : (v w : View) (a b : List ℕ) → bytes_eq b a ≡ false → w ≡ put v b None → renamed a b w ≡ renamed a b v
 renamed_again v w a b apart is =

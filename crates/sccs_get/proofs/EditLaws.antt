@@ -134,10 +134,6 @@ single_added records serials list list2 i d sid low is at put =
     at_end [] x = refl
     at_end (y ∷ xs) x = ap (λ zs. y ∷ zs) (at_end xs x)
 
-pub never_empty : (edits : List Edit) (e : Edit) → edits ++ e ∷ [] ≡ [] → edits ≡ [] → ⊥
-never_empty [] e none empty = cc
-never_empty (x ∷ edits) e none empty = cc
-
 -- ---- one entry more
 
 one_all : {X : Type 0} (P : X → Type 0) (x : X) → P x → All P (x ∷ [])

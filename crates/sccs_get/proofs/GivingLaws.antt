@@ -1,8 +1,7 @@
 -- What giving a text, placing a g-file and giving up say.
-use Rattle.std.proofs.Common.{◌≡◌, ◌≤◌, ℕ, Bool, true, false, not, ◌||◌, List, [], drop, Option, None, Some, Result, Ok, Err, inl, inr, refl, sym, ap, subst, ◌∙◌}
+use Rattle.std.proofs.Common.{◌≡◌, ◌≤◌, ℕ, Bool, true, false, not, ◌||◌, List, [], drop, Option, None, Some, Result, Ok, Err, inl, refl, sym, ap, subst, ◌∙◌}
 use Rattle.std.specs.Prelude.{if◌then◌else◌}
 use Rattle.std.specs.Result.{IfOk}
-use Rattle.std.specs.Str.{bytes_eq}
 use Rattle.sccs_base.specs.Name.{y_file}
 use Rattle.sccs_base.specs.Stream.{GivesOk, GivesSome}
 use Rattle.sccs_base.proofs.Gifts.{gives_none, some_none}
@@ -25,7 +24,6 @@ use Rattle.sccs_changes.specs.PFiles.{OnlyReads}
 use Rattle.sccs_steps.specs.Calls.{world}
 use Rattle.sccs_steps.specs.Causes.{PrintCauses}
 use Rattle.sccs_store.specs.Commits.{Becomes}
-use Rattle.sccs_store.proofs.Working.{moves_same}
 use Rattle.sccs_changes.specs.Ends.{Reports}
 use Rattle.sccs_changes.specs.declared.prepared.Prepared.{Prepared}
 use Rattle.sccs_words.specs.declared.commands.GetWords.{GetWords}
@@ -160,6 +158,3 @@ kept_up has_y n fault o none = inl (refl, by o)
 
 pub fault_so : (fault : StepFault) → unit_fault fault ≡ Err DiskFault → fault ≡ DiskFault
 fault_so fault is = cc
-
-pub broken_up : (has_y : Bool) (n : List ℕ) (o : Option View) → GivesUpGet has_y n DiskFault (Err DiskFault) o o
-broken_up has_y n o = inr (refl, moves_same (bytes_eq (y_file n)) o)

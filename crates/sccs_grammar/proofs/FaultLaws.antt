@@ -12,10 +12,6 @@ use Rattle.sccs_tokens.specs.Items.{item_at, go_on, items_from}
 abbrev step : Bool → ℕ → HeaderParser → List (List ℕ) → Result ParsedFront ℕ
 step whole n s lines = cond whole (Ok (record { header = header_of s; line = suc n; rest = lines })) (front_from (suc n) s lines)
 
-front-cons : (n : ℕ) (r : HeaderParser) (line : List ℕ) (lines : List (List ℕ)) → front_from n r (line ∷ lines) ≡ (line_after n r line >>= λ s. step (is_whole s.state) n s lines)
-unfolding front_from
-front-cons n r line lines = refl
-
 step_stays : (whole : Bool) (n k : ℕ) (s : HeaderParser) (lines more : List (List ℕ)) → (front_from (suc n) s lines ≡ Err k → front_from (suc n) s (lines ++ more) ≡ Err k) → step whole n s lines ≡ Err k → step whole n s (lines ++ more) ≡ Err k
 step_stays true n k s lines more later fault = cc
 step_stays false n k s lines more later fault = later fault

@@ -1,6 +1,6 @@
 -- Sample files, and what reading each of them answers, by computation.
-use Rattle.std.proofs.Common.{◌≡◌, ℕ, ◌-◌, List, [], ◌∷◌, ◌++◌, Ok, Err, Result, true, false, Option, Some, None, take, length, refl, ℤ, pos}
-use Rattle.std.specs.Prelude.{codes, is_ok, negsuc}
+use Rattle.std.proofs.Common.{◌≡◌, ℕ, ◌-◌, List, [], ◌∷◌, ◌++◌, Ok, Err, Result, true, false, Option, Some, None, refl, ℤ, pos}
+use Rattle.std.specs.Prelude.{codes, negsuc}
 use Rattle.jiff_core.specs.Calendar.{days_from_civil, day_count, days_of_years, days_of_months}
 use Rattle.sccs_base.specs.Cut.{cut}
 use Rattle.sccs_base.specs.Login.{is_login}
@@ -21,11 +21,10 @@ use Rattle.sccs_tokens.specs.Items.{item_at, items_from}
 use Rattle.sccs_grammar.specs.File.{Parsed, stored, opened, checked_front, front_of, file_of}
 use Rattle.sccs_tokens.specs.Written.{bytes_of, sum_line}
 use Rattle.sccs_grammar.specs.declared.faults.FileFault.{FileFault}
-use Rattle.sccs_grammar.specs.declared.faults.FileFault.TheVariants.{NotSccs, BadSum, BadFormat, Encoded}
 use Rattle.sccs_tokens.specs.declared.line_tokens.LineToken.{LineToken}
 use Rattle.sccs_tokens.specs.declared.line_tokens.LineToken.TheVariants.{Counts, Delta, Listed, Mr, Comment, FlagIs, Insert, Plain}
 use Rattle.sccs_tokens.specs.declared.line_tokens.ListKind.TheVariants.{Included, Excluded, Ignored}
-use Rattle.sccs_grammar.proofs.Samples.{with_sum, at_line, empty_delta, two_lines, second_delta, branched}
+use Rattle.sccs_grammar.proofs.Samples.{with_sum, empty_delta, two_lines, second_delta, branched}
 use Rattle.sccs_sid.proofs.FourNumbers.{of_four}
 
 -- the items of a file, or its fault
@@ -45,9 +44,6 @@ abbrev header_in : Result ParsedFront FileFault → Result Header FileFault
 header_in (Ok front) = Ok front.header
 header_in (Err fault) = Err fault
 
-abbrev without_last : List ℕ → List ℕ
-without_last bytes = take (length bytes - 1) bytes
-
 -- What a whole file is read as.
 record Whole : Type 0 where
   empty_delta : items_with 7227 empty_delta ≡ Ok (item.Insert 1 ∷ item.End 1 ∷ [])
@@ -58,30 +54,6 @@ record Whole : Type 0 where
 whole : Whole
 unfolding days_from_civil day_count days_of_years days_of_months cut is_login digits_after number_at byte_at numbers_after sid_of ends_blank skip skip_blanks drop_blanks words pieces spec_of number three until behind date_of time_of moment_of serial predecessor delta_of count_token serials listed serial_field control token dangling_predecessor line_after front_from item_at items_from stored opened checked_front front_of file_of
 whole = record { empty_delta = refl; two_lines = refl; second_delta = refl; branched = refl }
-
--- Damaged files, and the answer of each.
-record Damaged : Type 0 where
-  own_predecessor : items (at_line 7 ((1 ∷ codes "d D 1.2 75/03/01 00:00:00 ann 2 2") ∷ []) branched) ≡ Err (BadFormat 7)
-  no_such_day : items (at_line 11 ((1 ∷ codes "d D 1.1 75/02/29 23:59:59 ann 1 0") ∷ []) branched) ≡ Err (BadFormat 11)
-  users_without_end : items (at_line 17 [] branched) ≡ Err (BadFormat 17)
-  flag_twice : items (at_line 18 ((1 ∷ codes "f e 0") ∷ (1 ∷ codes "f e 0") ∷ []) branched) ≡ Err (BadFormat 19)
-  encoded : items (at_line 18 ((1 ∷ codes "f e 1") ∷ []) branched) ≡ Err Encoded
-  text_outside : items (at_line 21 [] branched) ≡ Err (BadFormat 21)
-  no_such_serial : items (at_line 29 ((1 ∷ codes "I 4") ∷ []) branched) ≡ Err (BadFormat 29)
-  end_of_closed : items (at_line 31 ((1 ∷ codes "E 2") ∷ []) branched) ≡ Err (BadFormat 31)
-  last_lf_removed : items_in (file_of (bytes_of (sum_line 12993 ∷ take 30 branched) ++ (1 ∷ codes "E 1"))) ≡ Err (BadFormat 32)
-  plain_sum : is_ok (items_with 13106 (at_line 22 ((200 ∷ []) ∷ []) branched)) ≡ true
-  signed_sum : is_ok (items_with 12850 (at_line 22 ((200 ∷ []) ∷ []) branched)) ≡ true
-  wrong_sum : items_with 13107 (at_line 22 ((200 ∷ []) ∷ []) branched) ≡ Err (BadSum 13107 13106)
-  one_lf : items_in (file_of (10 ∷ [])) ≡ Err NotSccs
-  sum_line_without_lf : items_in (file_of (sum_line 13003)) ≡ Err NotSccs
-  last_line_gone : items_with 13003 (take 30 branched) ≡ Err (BadSum 13003 12842)
-  never_ended : items_with 12842 (take 30 branched) ≡ Err (BadFormat 32)
-  empty : items_in (file_of []) ≡ Err NotSccs
-
-damaged : Damaged
-unfolding days_from_civil day_count days_of_years days_of_months cut is_login digits_after number_at byte_at numbers_after sid_of ends_blank skip skip_blanks drop_blanks words pieces spec_of number three until behind date_of time_of moment_of serial predecessor delta_of count_token serials listed serial_field control token dangling_predecessor line_after front_from item_at items_from stored opened checked_front front_of file_of
-damaged = record { own_predecessor = refl; no_such_day = refl; users_without_end = refl; flag_twice = refl; encoded = refl; text_outside = refl; no_such_serial = refl; end_of_closed = refl; last_lf_removed = refl; plain_sum = refl; signed_sum = refl; wrong_sum = refl; one_lf = refl; sum_line_without_lf = refl; last_line_gone = refl; never_ended = refl; empty = refl }
 
 -- a delta of the samples, with one line of comments
 abbrev row_of : ℕ → Sid → ℤ → List ℕ → ℕ → List (List ℕ) → ℕ → ℕ → ℕ → Record

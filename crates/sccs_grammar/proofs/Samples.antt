@@ -1,5 +1,5 @@
 -- Sample files, as lists of lines, and changes of such lists.
-use Rattle.std.proofs.Common.{ℕ, ◌-◌, List, [], ◌∷◌, ◌++◌, take, drop}
+use Rattle.std.proofs.Common.{ℕ, ◌-◌, List, [], ◌∷◌, ◌++◌}
 use Rattle.std.specs.Prelude.{codes}
 use Rattle.sccs_tokens.specs.Sums.{plain_sum}
 use Rattle.sccs_tokens.specs.Written.{bytes_of, sum_line}
@@ -7,10 +7,6 @@ use Rattle.sccs_tokens.specs.Written.{bytes_of, sum_line}
 -- lines with the sum line that fits them
 abbrev pub with_sum : List (List ℕ) → List (List ℕ)
 with_sum lines = sum_line (plain_sum (bytes_of lines)) ∷ lines
-
--- these lines in place of line n, which counts the sum line
-abbrev pub at_line : ℕ → List (List ℕ) → List (List ℕ) → List (List ℕ)
-at_line n new lines = take (n - 2) lines ++ (new ++ drop (n - 1) lines)
 
 -- what the first admin command makes of a file without text
 abbrev pub empty_delta : List (List ℕ)

@@ -2,7 +2,7 @@
 use Rattle.std.proofs.Common.{◌≡◌, ◌≢◌, ℕ, zero, suc, ◌-◌, ◌<◌, ◌≤◌, ◌==◌, true, false, ◌||◌, List, [], ◌∷◌, length, drop, get_or, Some, None, refl, sym, ap, ◌∙◌, arith, sub-one, eq-eqb}
 use Rattle.std.specs.Prelude.{slice_get}
 use Rattle.std.specs.List.{list_any}
-use Rattle.std.proofs.lemmas.Bool.{ne_eqb, or_right}
+use Rattle.std.proofs.lemmas.Bool.{or_right}
 use Rattle.std.proofs.lemmas.List.{drop_all}
 use Rattle.std.proofs.lemmas.List.Folds.{list_any_at}
 use Rattle.sccs_history.specs.Numbers.{has, share}
@@ -21,9 +21,6 @@ share-any (m ∷ ms) ns = ap (λ rest. has ns m || rest) (share-any ms ns)
 pub serials-any : (records : List Record) (n : ℕ) → list_any (λ r. r.serial == n) records ≡ has (serials_of records) n
 serials-any [] n = refl
 serials-any (r ∷ records) n = ap (λ rest. r.serial == n || rest) (serials-any records n)
-
-pub serial_there : (records : List Record) (n : ℕ) → n ≢ 0 → list_any (λ r. r.serial == n) records ≡ has (0 ∷ serials_of records) n
-serial_there records n some = rw (ne_eqb 0 n (λ e. some (sym e))) (serials-any records n)
 
 -- the serial of the record at a place is there
 pub serial_there_at : (records : List Record) (at n : ℕ) (r : Record) → at < length records → r ≡ get_or records at r → r.serial ≡ n → has (0 ∷ serials_of records) n ≡ true

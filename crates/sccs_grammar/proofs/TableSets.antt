@@ -49,11 +49,6 @@ sids_more old new rs r has_old live updates = λ sid.
     ∙ (ap (λ there. there || same_sid r.sid sid) (has_old sid)
     ∙ (ap (λ removed. lives rs sid || (not removed && same_sid r.sid sid)) (sym live) ∙ sym (lives_more rs r sid)))))
 
-pub sids_same : (old : BTreeSet (ℕ × ℕ × ℕ × ℕ)) (rs : List Record) (r : Record) → HasSids old rs → r.removed ≡ true → HasSids old (rs ++ r ∷ [])
-sids_same old rs r has_old removed = λ sid.
-    has_old sid ∙ (sym (or_none (lives rs sid))
-    ∙ (ap (λ gone. lives rs sid || (not gone && same_sid r.sid sid)) (sym removed) ∙ sym (lives_more rs r sid)))
-
 -- ---- SIDs that fall
 
 abbrev of_four : (release level branch sequence : ℕ) → ℕ

@@ -127,10 +127,6 @@ no_intent ms k h = left_false (bytes_eq intent_file k) (is_own_of ms k) (right_f
 no_own : (ms : List Member) (k : List ℕ) → is_own_of_group ms k ≡ false → is_own_of ms k ≡ false
 no_own ms k h = right_false (bytes_eq intent_file k) (is_own_of ms k) (right_false (bytes_eq plan_file k) (bytes_eq intent_file k || is_own_of ms k) h)
 
--- among the files of a group are those that each of its members leaves behind
-pub no_left : (ms rest : List Member) (i : ℕ) (mem : Member) → drop i ms ≡ mem ∷ rest → (k : List ℕ) → is_own_of_group ms k ≡ false → is_left mem.entry.name k ≡ false
-no_left ms rest i mem is k h = not_left_behind mem.entry.name k (but_g mem k (member_own ms rest i mem is k (no_own ms k h)))
-
 pub left_plan : (ms : List Member) (k : List ℕ) → is_left_of_group ms k ≡ false → bytes_eq plan_file k ≡ false
 left_plan ms k h = left_false (bytes_eq plan_file k) (bytes_eq intent_file k || is_lock_of ms k) h
 

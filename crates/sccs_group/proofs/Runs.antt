@@ -99,9 +99,6 @@ completes_by P Q f a b c becomes holds first next = λ m past is can has.
     (next (newest run.added m) (earlier run.added m past) run.is run.can
     (subst Q (sym (view_is f a b m (newest run.added m) past (earlier run.added m past) is run.is becomes)) (holds (view_of m) has)))
 
-pub completes_weaker : (P Q : View → Type 0) (a b : Told) → ((v : View) → Q v → P v) → CompletesBy P a b → CompletesBy Q a b
-completes_weaker P Q a b weaker completes = λ m past is can holds. completes m past is can (weaker (view_of m) holds)
-
 -- the same, where the second call needs that new pairs are settled
 pub by_can : (P Q : View → Type 0) (f : View → View) (a b c : Told) → Becomes f (seen a) (seen b) → ((v : View) → IsSettled v → P v → Q (f v)) → FinishesBy P a b → FinishesBy Q b c → FinishesBy P a c
 by_can P Q f a b c becomes holds first next = λ m past is can has.

@@ -143,9 +143,6 @@ joint_err ts = append-nil (err_of ts)
 refused_err : (n : List ℕ) (refusal : Refusal) → err_of (refused_step [] n refusal ∷ []) ≡ refusal_line n refusal
 refused_err n refusal = append-nil (refusal_line n refusal)
 
-abbrev none_yet : List NamedStep
-none_yet = joint_step [] ∷ []
-
 pub begun_none : BegunEntries (joint_step [] ∷ [])
 begun_none = (joint_step [], refl, inl ([], tt, refl))
 

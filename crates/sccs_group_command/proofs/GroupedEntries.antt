@@ -16,9 +16,6 @@ use Rattle.sccs_base.proofs.Bools.{right_false, left_false}
 
 -- ---- one entry more
 
-three_false : (b c : Bool) → b ≡ false → c ≡ false → (b || (c || false)) ≡ false
-three_false b c x y = cc
-
 among_more : (es : List GroupEntry) (e : GroupEntry) (n : List ℕ) → is_among (names_of es) n ≡ false → bytes_eq e.name n ≡ false → is_among (names_of (es ++ e ∷ [])) n ≡ false
 among_more [] e n apart other = let last : (bytes_eq e.name n || false) ≡ false = ap (λ (b : Bool). b || false) other in last
 among_more (a ∷ es) e n apart other = or_from (bytes_eq a.name n) (is_among (names_of (es ++ e ∷ [])) n) (left_false (bytes_eq a.name n) _ apart) (among_more es e n (right_false (bytes_eq a.name n) _ apart) other)

@@ -2,14 +2,11 @@
 use Rattle.std.proofs.Common.{◌≡◌, ℕ, zero, suc, ◌<◌, ◌⊎◌, true, false, cond, List, length, Option, None, Some, option_map, inl, inr, refl, sym, ap, subst, ◌∙◌, ⊎_elim, arith}
 use Rattle.std.specs.Prelude.{IfSome, is_some}
 use Rattle.std.specs.Str.{bytes_eq}
-use Rattle.sccs_disk.specs.Effects.{change, changed, created, pended, settled, firm, synced}
+use Rattle.sccs_disk.specs.Effects.{change, created, pended, settled, firm, synced}
 use Rattle.sccs_disk.specs.Files.{Content, File, View, Names, Rename, Remove, Model, names, names_at, file_at, put, view_of, IsSane}
 use Rattle.sccs_disk.specs.Images.{Full, Fits, IsOwn, IsFirm, file_under}
 use Rattle.sccs_disk.proofs.Models.{names_all, names_at_pended, names_at_created, names_created, names_pended, get_changed}
 use Rattle.sccs_disk.proofs.Puts.{name_cases, put_same, put_other}
-
-none_at : {X : Type 0} (p : ℕ) (o : Option ℕ) → o ≡ None → o ≡ Some p → X
-none_at p o none some = cc
 
 -- what leads to a place after one name more does so before, but for that name
 put_at : (t : Names) (n k : List ℕ) (x : Option ℕ) (p : ℕ) → put t n x k ≡ Some p → ((n ≡ k) × (x ≡ Some p)) ⊎ (t k ≡ Some p)
@@ -63,9 +60,6 @@ own_removed n o m own = record { only = λ j k p here there. by j k p (kept o p 
         ⊎_elim (λ e. own.only j k p here (ap (λ (t : Names). t k) (sym e) ∙ there))
         (λ e. own.only (length m.pending) k p here (ap (λ (t : Names). t k) (names_all m) ∙ kept k p (ap (λ (t : Names). t k) (sym e) ∙ there)))
         (names_at_pended (Remove n) m j)
-
-pub own_changed : (n o : List ℕ) (g : File → File) (m : Model) → IsOwn o m → IsOwn o (changed n g m)
-own_changed n o g m own = record { only = own.only }
 
 pub own_settled : (o : List ℕ) (m : Model) → IsOwn o m → IsOwn o (settled m)
 own_settled o m own = record { only = λ j k p here there. own.only (length m.pending) k p here (ap (λ (t : Names). t k) (names_all m) ∙ (sym (at j k) ∙ there)) }

@@ -121,10 +121,6 @@ writes_then n a b c first next m past is own =
     joined (bytes_eq n) m past b c begun
     (next (newest begun.added m) (earlier begun.added m past) begun.is ((each_newest (Touches (bytes_eq n) m) begun.added m begun.each).own n own))
 
--- a call that writes to one file alone touches it alone, where it is its name's own
-pub writes_touch : (n : List ℕ) (a b : Told) → ((m : Model) (past : List Model) → a ≡ Tells m past → IsOwn n m) → WritesOnly n a b → TouchesOnly (bytes_eq n) a b
-writes_touch n a b own writes m past is = writes m past is (own m past is)
-
 each_wider : (mine more : List ℕ → Bool) (xs : List Model) (m from : Model) → ((k : List ℕ) → more k ≡ false → mine k ≡ false) → Each (Touches mine from) xs m → Each (Touches more from) xs m
 each_wider mine more [] m from within each = touches_wider mine more from m within each
 each_wider mine more (a ∷ xs) m from within each = (touches_wider mine more from a within each.0, each_wider mine more xs m from within each.1)

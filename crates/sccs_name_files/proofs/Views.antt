@@ -1,5 +1,5 @@
 -- Views that are alike but for working files.
-use Rattle.std.proofs.Common.{◌≡◌, ℕ, Bool, true, false, cond, List, drop, Option, None, Some, sym, ap, subst, ◌∙◌}
+use Rattle.std.proofs.Common.{◌≡◌, ℕ, Bool, true, false, cond, List, drop, Option, None, Some, ap, ◌∙◌}
 use Rattle.std.specs.Str.{bytes_eq}
 use Rattle.sccs_base.specs.Name.{p_file, z_file}
 use Rattle.sccs_disk.specs.Files.{Content, View, put}
@@ -37,12 +37,6 @@ pub shows_moved : (w : List ℕ → Bool) (n : List ℕ) (new : Option Files) (v
 shows_moved w n new v None b apart shows moves = absurd shows
 shows_moved w n new v (Some u) None apart shows moves = absurd moves
 shows_moved w n new v (Some u) (Some t) apart shows moves = λ k h. moves k (apart.own k h) ∙ moved_alike w u v n new shows k h
-
-pub shows_kept : (w : List ℕ → Bool) (n : List ℕ) (v : View) (a b : Option View) → Apart w n → Shows w a v → Moves (is_working n) (λ u. u) a b → Shows w b v
-shows_kept w n v a b apart shows moves = shows_moved w n None v a b apart shows moves
-
-pub shows_same : (w : List ℕ → Bool) (v : View) (a b : Option View) → b ≡ a → Shows w a v → Shows w b v
-shows_same w v a b is shows = subst (λ told. Shows w told v) (sym is) shows
 
 -- the same of a view in which the l-file may be new
 pub shows_early : (w : List ℕ → Bool) (n : List ℕ) (first : Bool) (new : Option Files) (v : View) (a b : Option View) → Apart w n → Shows w a v → Moves (is_working n) (λ u. early_moved first u n new) a b → Shows w b (early_moved first v n new)

@@ -1,7 +1,5 @@
 -- A new file that is written: header, body and sum.
-use Rattle.std.proofs.Common.{◌≡◌, ℕ, List, [], ◌++◌, IfOk, OnOk, Result, Ok, Err, sym, ap, subst, ◌∙◌, arith, append-nil}
-use Rattle.std.specs.Result.{IsErrAnd}
-use Rattle.std.proofs.lemmas.Result.{err_from_is_err_and}
+use Rattle.std.proofs.Common.{◌≡◌, ℕ, List, [], ◌++◌, IfOk, OnOk, Result, Ok, Err, sym, ap, subst, ◌∙◌, append-nil}
 use Rattle.sccs_disk.specs.Told.{Told, seen}
 use Rattle.sccs_disk.specs.declared.disks.DiskRefusal.{DiskRefusal}
 use Rattle.sccs_disk.specs.declared.disks.DiskRefusal.TheVariants as fault
@@ -11,34 +9,10 @@ use Rattle.sccs_table.specs.SumOf.{IsSumOf}
 use Rattle.sccs_writers.specs.HeaderBytes.{WritesHeader, header_bytes}
 use Rattle.sccs_writers.specs.OneFile.{OnlyWrites}
 use Rattle.sccs_writers.specs.Puts.{Appends, Puts, PutsText, Writer}
-use Rattle.sccs_writers.proofs.OneFile.{only_none}
 use Rattle.sccs_writers.proofs.PutLaws.{views_two, ok_puts}
 use Rattle.sccs_new_files.specs.Writing.{AppendsSum}
 
 -- ---- the body
-
-on_err : {T : Type 0} (P : Type 0) (r : Result T DiskRefusal) (refusal : DiskRefusal) → r ≡ Err refusal → OnOk r P
-on_err P r refusal is = subst (λ (s : Result _ DiskRefusal). OnOk s P) (sym is) tt
-
-if_err : {T : Type 0} (P : T → Type 0) (r : Result T DiskRefusal) (refusal : DiskRefusal) → r ≡ Err refusal → IfOk r P
-if_err P r refusal is = subst (λ (s : Result _ DiskRefusal). IfOk s P) (sym is) tt
-
-again : {A B : Type 0} (x : DiskRefusal) (q : Result A DiskRefusal) (r : Result B DiskRefusal) → q ≡ Err x → r ≡ Err x → r ≡ Err fault.Failed → q ≡ Err fault.Failed
-again x q r is so failed = cc
-
--- a call that puts the body fails
-pub body_cut : {U : Type 0} (text : List ℕ) (w w2 : Writer) (n : List ℕ) (a b : Told) (f g : ℕ) (q : Result U DiskRefusal) (r : Result (ℕ × ℕ) DiskRefusal) (refusal : DiskRefusal) → w ≡ record { name = n; held = []; sums = w.sums } → q ≡ Err refusal → IsErrAnd r (λ e. e ≡ refusal)
-    → PutsText text w w2 a b f g q → AppendsSum text n w.sums a b f g r
-body_cut text w w2 n a b f g q r refusal named is left puts =
-    let p = err_from_is_err_and r left in
-    let so : r ≡ Err refusal = p.1 ∙ ap Err p.2 in
-    record {
-      ok = on_err _ r refusal so;
-      added = if_err _ r refusal so;
-      only = subst (λ m. OnlyWrites m a b) (ap (λ (v : Writer). v.name) named) puts.only;
-      later = puts.later;
-      cause = λ failed. puts.cause (again refusal q r is so failed);
-    }
 
 -- the body is put, and what was held back appended
 pub body_whole : {U : Type 0} (text : List ℕ) (w w2 : Writer) (n : List ℕ) (sums : ℕ × ℕ) (a b : Told) (f g : ℕ) (q : Result U DiskRefusal) (done : U) → w ≡ record { name = n; held = []; sums = sums } → q ≡ Ok done → w2.held ≡ []
@@ -55,10 +29,6 @@ body_whole text w w2 n sums a b f g q done named is none puts =
       later = puts.later;
       cause = λ failed. absurd cc;
     }
-
--- nothing is appended
-pub body_unbegun : (text n : List ℕ) (sums : ℕ × ℕ) (a : Told) (f : ℕ) → AppendsSum text n sums a a f f (Err fault.Memory)
-body_unbegun text n sums a f = record { ok = tt; added = tt; only = only_none n a; later = omega arith; cause = λ failed. absurd cc }
 
 -- ---- header and body
 

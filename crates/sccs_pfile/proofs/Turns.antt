@@ -4,10 +4,8 @@ use Rattle.std.specs.List.{All}
 use Rattle.std.proofs.lemmas.List.Elements.{All-push}
 use Rattle.sccs_base.specs.Cut.{cut}
 use Rattle.sccs_pfile.specs.Entries.{IsEdit}
-use Rattle.sccs_pfile.specs.Reading.{ReadsEdits, edits_of, entries_at, edits_with_entry}
+use Rattle.sccs_pfile.specs.Reading.{edits_of, entries_at, edits_with_entry}
 use Rattle.sccs_pfile.specs.declared.entries.Edit.{Edit}
-use Rattle.sccs_pfile.specs.declared.entries.PfileFault.{PfileFault}
-use Rattle.sccs_pfile.specs.declared.entries.PfileFault.TheVariants.{BadPfile, Memory}
 
 abbrev pub behind_edits : List Edit → Result (List Edit) ℕ → Result (List Edit) ℕ
 behind_edits before (Ok more) = Ok (before ++ more)
@@ -20,11 +18,6 @@ none_before (Err line) = refl
 pub one_before : (before : List Edit) (e : Edit) (number : ℕ) (read : Result (List Edit) ℕ) → behind_edits before (edits_with_entry number (Some e) read) ≡ behind_edits (before ++ e ∷ []) read
 one_before before e number (Ok more) = ap Ok (sym (append_assoc before (e ∷ []) more))
 one_before before e number (Err line) = refl
-
--- a fault behind entries
-pub fault_behind : (before : List Edit) (fault : PfileFault) (read all : Result (List Edit) ℕ) → behind_edits before read ≡ all → ReadsEdits (Err fault) read → ReadsEdits (Err fault) all
-fault_behind before (BadPfile line) read all is reads = sym is ∙ ap (behind_edits before) reads
-fault_behind before Memory read all is reads = tt
 
 -- nothing is left
 pub all_read : (before : List Edit) (number : ℕ) (rest : List ℕ) (all : Result (List Edit) ℕ) → rest ≡ [] → behind_edits before (entries_at number rest) ≡ all → all ≡ Ok before

@@ -66,12 +66,6 @@ run_counted form s s2 run many count some same whole many_is count_is some_is =
     (count_is ∙ ap (λ n. s.lines + n) (many_is ∙ lines_are run))
     (ap (λ (o : Shown). o.keywords || some) same ∙ ap (λ b. s.keywords || b) (some_is ∙ ap (if_replaced form.facts) (run_keywords run whole)))
 
-pub line_counted : (form : LineForm) (s s2 : Shown) (line : List ℕ) (count : ℕ) (some : Bool) → s2 ≡ s → count ≡ s.lines + 1 → some ≡ if_replaced form.facts (list_any is_keyword (parts line))
-    → ◌≡◌ {A = Shown} (record { lines = count; keywords = s2.keywords || some }) (with_lines form s (line ∷ []))
-line_counted form s s2 line count some same count_is some_is =
-    same_shown count (s.lines + 1) (s2.keywords || some) (s.keywords || replaces_in form (line ∷ [])) count_is
-    (ap (λ (o : Shown). o.keywords || some) same ∙ ap (λ b. s.keywords || b) (some_is ∙ ap (if_replaced form.facts) (or_none (list_any is_keyword (parts line)))))
-
 -- ---- lines that were given
 
 pub keeps_same : (g : Giving) → KeepsForm g g

@@ -2,8 +2,8 @@
 use Rattle.std.proofs.Common.{◌≡◌, ℕ, ◌+◌, ◌≤◌, List, [], ◌++◌, length, length-append, take, drop, zero, suc, Option, None, Some, Result, Ok, Err, refl, sym, ap, subst, ◌∙◌, arith, append_assoc}
 use Rattle.std.proofs.Math.Seq.{take-append-add}
 use Rattle.std.proofs.lemmas.List.{append-nil, take-append-drop, take-append-le}
-use Rattle.sccs_base.specs.Stream.{Buffers, GivesOk, GivesSome}
-use Rattle.sccs_base.proofs.Gifts.{buffers_both, buffers_cut, buffers_flushed, buffers_none, buffers_then, some_longer, some_none, some_of_whole}
+use Rattle.sccs_base.specs.Stream.{Buffers, GivesSome}
+use Rattle.sccs_base.proofs.Gifts.{buffers_both, buffers_cut, buffers_none, buffers_then, some_longer, some_of_whole}
 use Rattle.sccs_sid.specs.declared.refusals.StepFault.{StepFault}
 use Rattle.sccs_sid.specs.declared.refusals.StepFault.TheVariants.{Refused, Memory, ReadFault, WriteFault, DiskFault}
 use Rattle.sccs_printing.specs.Printing.{IsFaultAroundPrint}
@@ -89,11 +89,6 @@ flush_given (Err WriteFault) held left b c flush = subst (λ text. GivesSome b c
 flush_given (Err ReadFault) held left b c flush = absurd flush
 flush_given (Err (Refused refusal)) held left b c flush = absurd flush
 
--- all of it, where nothing is held then
-pub all_printed : (text mid left : List ℕ) (a b c : Option (List ℕ)) → Buffers [] text mid a b → Buffers mid [] left b c → left ≡ [] → GivesOk a c text
-all_printed text mid left a b c gives flush none =
-    buffers_flushed [] text mid a b c gives (subst (λ all. GivesOk b c all) (sym (sym (append-nil mid) ∙ (flush.split ∙ (ap (λ l. flush.gone ++ l) none ∙ append-nil flush.gone)))) flush.gives)
-
 -- the flush failed
 pub cut_at_flush : (file : Option (List ℕ)) (text mid left : List ℕ) (fault : StepFault) (a b c : Option (List ℕ)) → Buffers [] text mid a b → Cuts file [] fault mid left b c → IsCut file text fault a c
 cut_at_flush None text mid left Memory a b c gives cuts = buffers_cut [] text mid a b c gives (flush_given {T = Unit {0}} (Err Memory) mid left b c cuts)
@@ -115,13 +110,3 @@ cut_before_flush (Some n) q text mid left DiskFault a b c cuts flush = tt
 cut_before_flush (Some n) q text mid left WriteFault a b c cuts flush = absurd cuts
 cut_before_flush file q text mid left ReadFault a b c cuts flush = absurd cuts
 cut_before_flush file q text mid left (Refused refusal) a b c cuts flush = absurd cuts
-
--- nothing was given
-pub silent : (file : Option (List ℕ)) (text : List ℕ) (fault : StepFault) (a : Option (List ℕ)) → IsFaultAroundPrint fault → IsCut file text fault a a
-silent None text Memory a outer = some_none a text
-silent None text DiskFault a outer = some_none a text
-silent (Some n) text Memory a outer = tt
-silent (Some n) text DiskFault a outer = tt
-silent file text WriteFault a outer = absurd outer
-silent file text ReadFault a outer = absurd outer
-silent file text (Refused refusal) a outer = absurd outer

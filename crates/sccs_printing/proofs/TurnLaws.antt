@@ -39,10 +39,6 @@ pub mark_both : (file : Option (List ℕ)) (t t2 t3 : Told) → KeepsTargetMark 
 mark_both None t t2 t3 one two = tt
 mark_both (Some n) t t2 t3 one two = two ∙ one
 
-pub can_still : (file : Option (List ℕ)) (o o2 : Option (List ℕ)) (t t2 : Told) → Reaches file o o2 t t2 → CanTake file t → CanTake file t2
-can_still None o o2 t t2 reach there = tt
-can_still (Some n) o o2 t t2 reach there = reach.1.there there
-
 -- the bytes of another file stay
 other_bytes : (n k file : List ℕ) (o o2 : Option View) → bytes_eq n k ≡ false → Moves (bytes_eq n) (λ v. v) o o2 → bytes_in o k ≡ Some file → bytes_in o2 k ≡ Some file
 other_bytes n k file None o2 other moves is = absurd cc

@@ -1,9 +1,8 @@
 -- Lists that are given item by item.
-use Rattle.std.proofs.Common.{◌≡◌, ℕ, ◌+◌, ◌<◌, ◌≤◌, List, [], ◌∷◌, ◌++◌, append_assoc, append-nil, length, take, flat_map, get_or, Option, Result, Ok, Err, OnOk, OnErr, sym, ap, subst, ◌∙◌, add-one, arith}
-use Rattle.std.specs.Result.{OnOk, OnErr}
+use Rattle.std.proofs.Common.{◌≡◌, ℕ, ◌+◌, ◌<◌, ◌≤◌, List, [], ◌∷◌, ◌++◌, append_assoc, append-nil, length, take, flat_map, get_or, Option, Result, Err, OnErr, sym, ap, subst, ◌∙◌, arith}
+use Rattle.std.specs.Result.{OnErr}
 use Rattle.sccs_base.specs.Causes.{GivesText}
 use Rattle.sccs_base.specs.Stream.{GivesOk, GivesSome, Rose}
-use Rattle.sccs_base.proofs.Gifts.{gives_both, gives_none, part_more}
 use Rattle.sccs_base.proofs.Runs.{some_of_pieces}
 use Rattle.sccs_base.proofs.Rises.{rose_later}
 
@@ -11,21 +10,6 @@ use Rattle.sccs_base.proofs.Rises.{rose_later}
 pub record HasGiven (text : List ℕ) (a b : Option (List ℕ)) (n m : ℕ) : Type 0 where
   pub given : GivesOk a b text
   pub later : n ≤ m
-
-pub none_given : (a : Option (List ℕ)) (n : ℕ) → HasGiven [] a a n n
-none_given a n = record { given = gives_none a; later = omega arith }
-
--- with one item more
-pub item_given : {X T E : Type 0} (f : X → List ℕ) (xs items : List X) → items ≡ xs → (i : ℕ) (x d : X) → i < length items → x ≡ get_or items i d → (a b c : Option (List ℕ)) (n m k : ℕ) (r : Result T E) (done : T) → r ≡ Ok done
-    → HasGiven (flat_map f (take i xs)) a b n m → GivesText (f x) b c m k r → HasGiven (flat_map f (take (i + 1) xs)) a c n k
-item_given {X} {T} {E} f xs items same i x d below is a b c n m k r done ok so_far text =
-    let there : i < length xs = subst (λ (l : List X). i < length l) same below in
-    let item : get_or xs i d ≡ x = ap (λ (l : List X). get_or l i d) (sym same) ∙ sym is in
-    let gave : GivesOk b c (f x) = subst (λ (s : Result T E). OnOk s (GivesOk b c (f x))) ok text.ok in
-    record {
-      given = subst (λ t. GivesOk a c t) (ap (λ (y : X). flat_map f (take i xs) ++ f y) (sym item) ∙ (sym (part_more f xs i d there) ∙ ap (λ j. flat_map f (take j xs)) (sym (add-one i)))) (gives_both a b c (flat_map f (take i xs)) (f x) so_far.given gave);
-      later = omega (arith, so_far.later, text.later);
-    }
 
 -- one item fails
 pub item_fails : {X T E : Type 0} (f : X → List ℕ) (xs items : List X) → items ≡ xs → (i : ℕ) (x d : X) → i < length items → x ≡ get_or items i d → (a b c : Option (List ℕ)) (n m k : ℕ) (r : Result T E) (fault other : E) → r ≡ Err fault

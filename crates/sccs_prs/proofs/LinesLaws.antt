@@ -1,7 +1,7 @@
 -- The text of a delta, and the deltas of a table.
 use Rattle.std.proofs.Common.{◌≡◌, ℕ, zero, suc, ◌<◌, ◌≤◌, Bool, true, false, not, cond, ◌||◌, ◌==◌, List, [], ◌∷◌, length, take, get_or, Option, None, Err, eq-eqb, refl, sym, ap, subst, ◌∙◌, arith}
 use Rattle.std.specs.List.{AllByRecursion}
-use Rattle.sccs_base.specs.Stream.{GivesOk, GivesSome}
+use Rattle.sccs_base.specs.Stream.{GivesSome}
 use Rattle.sccs_history.specs.Applied.{applied, live_serials, version, version_of}
 use Rattle.sccs_history.specs.Body.{HistoryLine, lines_of}
 use Rattle.sccs_history.specs.History.{HasSpelling}
@@ -44,9 +44,6 @@ live_text s r set lives is =
     bare_text s.header.records set (lines_of s.items)
     ∙ (ap (λ (t : List ℕ). bytes_of (select t (lines_of s.items))) is
     ∙ ap (λ (b : Bool). cond b [] (bytes_of (version r.serial s.header.records (lines_of s.items)))) (sym lives))
-
-pub no_text : (s : ShownFile) (r : Record) (a : Option (List ℕ)) → r.removed ≡ true → GivesOk a a [] → GivesOk a a (delta_lines s r)
-no_text s r a removed none = subst (λ t. GivesOk a a t) (ap (λ (b : Bool). cond b [] (bytes_of (version r.serial s.header.records (lines_of s.items)))) (sym removed)) none
 
 pub prints_so : (x y : List ℕ) (fault : StepFault) (a b : Option (List ℕ)) → x ≡ y → PrintsTo {T = Shown} None x (Err fault) a b → PrintsAll {T = Unit {0}} y (Err fault) a b
 prints_so x y Memory a b same some = subst (λ t. GivesSome a b t) same some

@@ -41,10 +41,6 @@ data_text s r Text = delta_lines s r
 abbrev pub parts_text : List Part → ShownFile → Record → List ℕ
 parts_text ps s r = flat_map (data_text s r) ps
 
--- the text of a specification for a delta
-abbrev pub prs_text : List ℕ → ShownFile → Record → List ℕ
-prs_text spec s r = parts_text (data_parts spec) s r
-
 -- the texts of the deltas that come, each with an LF behind it
 abbrev pub shown_text : Bool → Chosen → List Part → ShownFile → Record → List ℕ
 shown_text all chosen ps s r = if comes all chosen r then ended (parts_text ps s r) else []

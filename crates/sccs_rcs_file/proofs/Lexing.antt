@@ -98,13 +98,6 @@ lexemes_next bytes b more token rest is token_is =
       omega arith,
     )
 
-pub lexemes_none : (bytes : List ℕ) → from_token bytes ≡ [] → lexemes bytes ≡ []
-lexemes_none bytes is = ap (λ l. lexemes_from (lexemes_within (length bytes)) l) is
-
-pub lexemes_bad : (bytes : List ℕ) (b : ℕ) (more : List ℕ) → from_token bytes ≡ b ∷ more → token_at b more ≡ None → lexemes bytes ≡ record { token = None; left = suc (length more) } ∷ []
-lexemes_bad bytes b more is token_is =
-    ap (λ l. lexemes_from (lexemes_within (length bytes)) l) is ∙ ap (λ o. lexemes_by (suc (length more)) (lexemes_within (length bytes)) o) token_is
-
 -- the same by the bytes that begin with the token
 pub lexemes_found : (bytes whole : List ℕ) (b : ℕ) (more : List ℕ) (token : Token) (rest : List ℕ) → whole ≡ from_token bytes → whole ≡ b ∷ more → Some (token, rest) ≡ token_at b more
     → (lexemes bytes ≡ record { token = Some token; left = length whole } ∷ lexemes rest) × (length rest < length bytes)

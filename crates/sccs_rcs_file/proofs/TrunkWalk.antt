@@ -1,8 +1,8 @@
 -- The walk along a trunk, revision by revision.
-use Rattle.std.proofs.Common.{◌≡◌, ℕ, zero, suc, ◌-◌, ◌<◌, List, [], ◌∷◌, ◌++◌, Option, None, Some, Result, Ok, Err, refl, sym, ap, ◌∙◌, arith, append-nil, append_assoc}
+use Rattle.std.proofs.Common.{◌≡◌, ℕ, suc, ◌-◌, ◌<◌, List, [], ◌∷◌, ◌++◌, Option, None, Some, Result, Ok, Err, refl, sym, ap, ◌∙◌, arith, append_assoc}
 use Rattle.sccs_sid.specs.declared.sids.Sid.{Sid}
 use Rattle.sccs_rcs_file.specs.Forms.{RcsFile}
-use Rattle.sccs_rcs_file.specs.Trunk.{head_of, revision_of, revisions_at, revisions_from, then_revisions, trunk_of, with_all, with_revision}
+use Rattle.sccs_rcs_file.specs.Trunk.{revision_of, revisions_at, revisions_from, then_revisions, with_all, with_revision}
 use Rattle.sccs_trunks.specs.declared.revisions.Revision.{Revision}
 
 all_none : (r : Result (List Revision) ℕ) → with_all [] r ≡ r
@@ -16,9 +16,6 @@ all_more came r (Err n) = refl
 -- the first step
 pub walk_begins : (file : RcsFile) (head : List ℕ) → with_all [] (revisions_from (65536 - 1) 1 None (Some head) file) ≡ revisions_at (Some head) file
 walk_begins file head = all_none (revisions_from (65536 - 1) 1 None (Some head) file)
-
-pub no_head : (file : RcsFile) → None ≡ head_of file → trunk_of file ≡ Err 1
-no_head file is = sym (ap (λ o. revisions_at o file) is)
 
 from_step : (most : ℕ) (count : ℕ) (above : Option Sid) (number : List ℕ) (file : RcsFile) (left : ℕ) → left ≡ suc most
     → revisions_from left count above (Some number) file ≡ then_revisions count (revision_of above number file) (λ sid next. revisions_from most (suc count) (Some sid) next file)
@@ -38,25 +35,9 @@ walk_goes_on came new count count_new above number file r next all some lt count
     same : 65536 - count ≡ suc (65536 - suc count)
     same = omega arith
 
-pub walk_unfit : (came : List Revision) (count : ℕ) (above : Option Sid) (number : List ℕ) (file : RcsFile) (all : Result (List Revision) ℕ)
-    → 0 < count → count < 65536 → None ≡ revision_of above number file
-    → with_all came (revisions_from (65536 - count) count above (Some number) file) ≡ all → all ≡ Err count
-walk_unfit came count above number file all some lt is so_far =
-    sym so_far
-    ∙ (ap (λ x. with_all came x) (from_step (65536 - suc count) count above number file (65536 - count) same)
-    ∙ ap (λ o. with_all came (then_revisions count o (λ sid after. revisions_from (65536 - suc count) (suc count) (Some sid) after file))) (sym is))
-  where
-    same : 65536 - count ≡ suc (65536 - suc count)
-    same = omega arith
-
 pub walk_full : (came : List Revision) (count : ℕ) (above : Option Sid) (number : List ℕ) (file : RcsFile) (all : Result (List Revision) ℕ)
     → 65535 < count → with_all came (revisions_from (65536 - count) count above (Some number) file) ≡ all → all ≡ Err count
 walk_full came count above number file all high so_far = sym so_far ∙ ap (λ k. with_all came (revisions_from k count above (Some number) file)) none
   where
     none : 65536 - count ≡ 0
     none = omega arith
-
-pub walk_ends : (came : List Revision) (count left : ℕ) (above : Option Sid) (file : RcsFile) (all : Result (List Revision) ℕ)
-    → with_all came (revisions_from left count above None file) ≡ all → all ≡ Ok came
-walk_ends came count zero above file all so_far = sym so_far ∙ ap Ok (append-nil came)
-walk_ends came count (suc left) above file all so_far = sym so_far ∙ ap Ok (append-nil came)

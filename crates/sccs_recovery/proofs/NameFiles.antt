@@ -47,10 +47,6 @@ pub record SamePair (e : IntentEntry) (u v : View) : Type 0 where
   pub s : newer (u (x_file e.name)) (u e.name) ≡ newer (v (x_file e.name)) (v e.name)
   pub p : fated e.fate (u (q_file e.name)) (u (p_file e.name)) ≡ fated e.fate (v (q_file e.name)) (v (p_file e.name))
 
--- the first two of a name's files in their places
-pair_at : List ℕ → Option Content → Option Content → List ℕ → Option Content → Option Content
-pair_at n s p k here = cond (bytes_eq (p_file n) k) p (cond (bytes_eq n k) s here)
-
 two_at : (e : IntentEntry) (u : View) (k : List ℕ) → IsSFileName e.name → is_left e.name k ≡ false
     → p_taken e.fate e.name (taken (x_file e.name) e.name u) k
     ≡ cond (bytes_eq (p_file e.name) k) (fated e.fate (u (q_file e.name)) (u (p_file e.name))) (cond (bytes_eq e.name k) (newer (u (x_file e.name)) (u e.name)) (u k))

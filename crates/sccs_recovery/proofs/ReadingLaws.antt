@@ -1,10 +1,7 @@
 -- What the readings of recovery answer.
-use Rattle.std.proofs.Common.{◌≡◌, ℕ, ◌≤◌, Bool, true, false, cond, List, length, Option, None, Some, option_map, IfSome, IsSome, Result, Ok, Err, refl, sym, ap, subst, ◌∙◌}
+use Rattle.std.proofs.Common.{◌≡◌, ℕ, ◌≤◌, Bool, true, false, cond, List, length, Option, None, Some, option_map, IfSome, Result, Ok, Err, refl, sym, ap, subst, ◌∙◌}
 use Rattle.std.specs.Prelude.{nat_lt}
-use Rattle.std.proofs.lemmas.Bool.{le-ltb, lt-ltb}
 use Rattle.sccs_disk.specs.Files.{Content, View}
-use Rattle.sccs_disk.specs.Reads.{Measures}
-use Rattle.sccs_name_files.specs.WholeFiles.{AnswersWhole}
 use Rattle.sccs_name_files.specs.declared.whole_files.WholeFault.TheVariants as whole
 use Rattle.sccs_sid.specs.Reading.{◌>>=◌}
 use Rattle.sccs_sid.specs.Words.{found}
@@ -13,19 +10,15 @@ use Rattle.sccs_sid.specs.declared.refusals.Refusal.TheVariants.{BadPfile, TooLo
 use Rattle.sccs_sid.specs.declared.refusals.StepFault.{StepFault}
 use Rattle.sccs_sid.specs.declared.refusals.StepFault.TheVariants as step
 use Rattle.sccs_history.specs.declared.headers.Record.{Record}
-use Rattle.sccs_grammar.specs.File.{Parsed, answer, file_of}
-use Rattle.sccs_grammar.specs.FileRefusals.{file_fault, or_refusal}
+use Rattle.sccs_grammar.specs.File.{Parsed, file_of}
+use Rattle.sccs_grammar.specs.FileRefusals.{or_refusal}
 use Rattle.sccs_grammar.specs.declared.faults.FileFault.{FileFault}
 use Rattle.sccs_grammar.specs.declared.faults.FileFault.TheVariants as faults
-use Rattle.sccs_table.specs.FrontFile.{Refuses}
-use Rattle.sccs_table.specs.ReaderState.{file_in}
-use Rattle.sccs_table.specs.declared.fronts.Front.{Front}
-use Rattle.sccs_body.specs.BodyFile.{AnswersFile}
 use Rattle.sccs_pfile.specs.Reading.{edits_of}
 use Rattle.sccs_grammar.proofs.AnySumLaws.{unsummed_ok}
 use Rattle.sccs_pfile.specs.Recovered.{recovered_by, recovered_pfile, table_of}
 use Rattle.sccs_pfile.specs.declared.entries.Edit.{Edit}
-use Rattle.sccs_recovery.specs.Checks.{ReadsOrRefuses, ReadsTable, as_pfile, bytes_read, entries_read, readable, table_in, table_read}
+use Rattle.sccs_recovery.specs.Checks.{ReadsOrRefuses, ReadsTable, as_pfile, bytes_read, entries_read, readable, table_read}
 use Rattle.sccs_recovery.specs.Entries.{Finds, IsGone, LeavesEntries, Recovers, pfile_left}
 use Rattle.sccs_recovery.specs.declared.entries_left.PfileLeft.{PfileLeft}
 use Rattle.sccs_recovery.specs.declared.entries_left.PfileLeft.TheVariants.{Same, Gone, Others}
@@ -38,64 +31,7 @@ some_map (Some v) f p = f v p
 
 -- ---- the p-file
 
-pub whole_read : (o : Option Content) (bytes : List ℕ) → AnswersWhole o (Ok bytes) → bytes_read o ≡ Ok (Some bytes)
-whole_read None bytes answers = absurd answers
-whole_read (Some c) bytes answers =
-    ap (λ (b : Bool). cond b (Err TooLong) (Ok (Some c.bytes))) (le-ltb 1073741824 (length c.bytes) (subst (λ (l : List ℕ). length l ≤ 1073741824) answers.0 answers.1)) ∙ ap (λ (l : List ℕ). Ok (Some l)) (sym answers.0)
-
-pub none_read : (o : Option Content) → o ≡ None → bytes_read o ≡ Ok None
-none_read o none = ap bytes_read none
-
-pub long_read : (o : Option Content) → AnswersWhole o (Err whole.TooLong) → bytes_read o ≡ Err TooLong
-long_read None long = absurd long
-long_read (Some c) long = ap (λ (b : Bool). cond b (Err TooLong) (Ok (Some c.bytes))) (lt-ltb 1073741824 (length c.bytes) long)
-
 -- ---- the s-file
-
-file_refused : (c : Content) (fault : FileFault) → Refuses fault (answer file_of (Some c.bytes)) → ReadsTable (table_read (Some c)) (Err (file_fault fault))
-file_refused c faults.Missing e = ap (λ (r : Result Parsed FileFault). or_refusal r >>= λ f. Ok (Some f.header.records)) e
-file_refused c faults.TooLong e = ap (λ (r : Result Parsed FileFault). or_refusal r >>= λ f. Ok (Some f.header.records)) e
-file_refused c faults.NotSccs e = ap (λ (r : Result Parsed FileFault). or_refusal r >>= λ f. Ok (Some f.header.records)) e
-file_refused c (faults.BadSum stored sum) e = ap (λ (r : Result Parsed FileFault). or_refusal r >>= λ f. Ok (Some f.header.records)) e
-file_refused c (faults.BadFormat line) e = ap (λ (r : Result Parsed FileFault). or_refusal r >>= λ f. Ok (Some f.header.records)) e
-file_refused c faults.Encoded e = ap (λ (r : Result Parsed FileFault). or_refusal r >>= λ f. Ok (Some f.header.records)) e
-file_refused c (faults.Changed size sum size_now sum_now) e = absurd e
-file_refused c faults.Failed e = tt
-file_refused c faults.Memory e = tt
-
-front_by : (o : Option Content) (front : Front) → IsSome o → AnswersFile (option_map (λ (c : Content). c.bytes) o) (Ok front) → table_read o ≡ Ok (table_in (Some front))
-front_by None front there answers = absurd (cc)
-front_by (Some c) front there answers =
-    ap (λ (r : Result Parsed FileFault). or_refusal r >>= λ f. Ok (Some f.header.records)) answers.1 ∙ ap (λ header. Ok (Some header.records)) (sym answers.2.0)
-
-refused_by : (o : Option Content) (fault : FileFault) → IsSome o → AnswersFile (option_map (λ (c : Content). c.bytes) o) (Err fault) → ReadsTable (table_read o) (Err (file_fault fault))
-refused_by None fault there answers = absurd (cc)
-refused_by (Some c) fault there answers = file_refused c fault answers
-
-pub front_read : (told : Option View) (name : List ℕ) (front : Front) → IfSome told (λ (v : View). AnswersFile (file_in v name) (Ok front)) → IfSome told (λ (v : View). IsSome (v name) → ReadsTable (table_read (v name)) (Ok (Some front)))
-front_read told name front answers = some_map told (λ v a there. front_by (v name) front there a) answers
-
-pub front_refused : (told : Option View) (name : List ℕ) (fault : FileFault) (ended : StepFault) → ended ≡ file_fault fault → IfSome told (λ (v : View). AnswersFile (file_in v name) (Err fault))
-    → IfSome told (λ (v : View). IsSome (v name) → ReadsTable (table_read (v name)) (Err ended))
-front_refused told name fault ended is answers =
-    some_map told (λ v a there. subst (λ (e : StepFault). ReadsTable (table_read (v name)) (Err e)) (sym is) (refused_by (v name) fault there a)) answers
-
-sized : (o : Option Content) (size : ℕ) → Some size ≡ option_map (λ (c : Content). length c.bytes) o → IsSome o
-sized None size is = cc
-sized (Some c) size is = refl
-
-unsized : (o : Option Content) → None ≡ option_map (λ (c : Content). length c.bytes) o → o ≡ None
-unsized None is = refl
-unsized (Some c) is = absurd (cc)
-
-pub there_read : (told told2 : Option View) (name : List ℕ) (size : ℕ) (r : Result (Option Front) StepFault) → told2 ≡ told → Measures told name (Some size) → IfSome told2 (λ (v : View). IsSome (v name) → ReadsTable (table_read (v name)) r)
-    → IfSome told (λ (v : View). ReadsTable (table_read (v name)) r)
-there_read None told2 name size r same measures reads = tt
-there_read (Some v) told2 name size r same measures reads = (subst (λ (o : Option View). IfSome o (λ (u : View). IsSome (u name) → ReadsTable (table_read (u name)) r)) same reads) (sized (v name) size measures)
-
-pub missing_read : (told : Option View) (name : List ℕ) → Measures told name None → IfSome told (λ (v : View). ReadsTable (table_read (v name)) (Ok None))
-missing_read None name measures = tt
-missing_read (Some v) name measures = ap table_read (unsized (v name) measures)
 
 -- ---- both
 
@@ -121,15 +57,6 @@ pub recovers_edits : (s : Option Content) (c : Content) (records : List Record) 
 recovers_edits None c records edits left table read leaves = absurd (cc)
 recovers_edits (Some s) c records edits left table read leaves =
     ap (λ (t : Option (List Record)). recovered_by t (edits_of c.bytes) c) (table_found s records table) ∙ (ap (λ (r : Result (List Edit) ℕ). recovered_by (Some records) r c) read ∙ leaves c)
-
-pub recovers_none : (s p : Option Content) → table_read s ≡ Ok None → recovered_pfile s p ≡ p
-recovers_none None None is = refl
-recovers_none None (Some p) is = refl
-recovers_none (Some s) p is = absurd (never (answer file_of (Some s.bytes)) is)
-  where
-    never : (r : Result Parsed FileFault) → (or_refusal r >>= λ f. Ok (Some f.header.records)) ≡ Ok None → ⊥
-    never (Ok f) e = cc
-    never (Err fault) e = cc
 
 -- the checks, one after the other
 pub readable_by : (s p : Option Content) (bytes : Option (List ℕ)) (table : Option (List Record)) (read : Result Bool Refusal) → bytes_read p ≡ Ok bytes → table_read s ≡ Ok table → (entries_read bytes >>= λ edits. Ok true) ≡ read → readable s p ≡ read

@@ -38,14 +38,8 @@ use Rattle.sccs_recovery.specs.declared.entries_left.PfileLeft.TheVariants.{Same
 abbrev pub plan_left : NewFile → Plan
 plan_left new = plan false new Keep
 
-cleared_p : (n : List ℕ) (v : View) → cleared n v (p_file n) ≡ v (p_file n)
-cleared_p n v = refl
-
 pub cleared_q : (n : List ℕ) (v : View) → cleared n v (q_file n) ≡ None
 cleared_q n v = put_same (without_name (x_file n) v) (q_file n) None
-
-cleared_z : (n : List ℕ) (v : View) → cleared n v (z_file n) ≡ v (z_file n)
-cleared_z n v = refl
 
 -- the q-file in the place of the p-file, where there was none
 pub q_placed : (n : List ℕ) (u : View) (x : Option Content) → u (q_file n) ≡ None → swapped Replace (q_file n) (p_file n) (put u (q_file n) x) ≡ put u (p_file n) x

@@ -177,9 +177,6 @@ word_removed Inv P kept flags after word inv is =
     done_by Inv (may_remove flags (word_letter word) (word_text word)) (word_letter word) (without_word flags (word_letter word) (word_text word)) after
     (λ may. word_left Inv P kept flags (word_letter word) (word_text word) inv may (is_empty (word_text word)) (is_all (word_text word)) refl refl) is
 
-abbrev Change : Type 0
-Change = List Flag → List ℕ → Result (List Flag) ℕ
-
 turn_by : (Inv : List Flag → Type 0) (r : Result (List Flag) ℕ) (next : List Flag → Result (List Flag) ℕ) (after : List Flag)
     → ((middle : List Flag) → r ≡ Ok middle → Inv middle) → ((middle : List Flag) → Inv middle → next middle ≡ Ok after → Inv after) → (r >>= next) ≡ Ok after → Inv after
 turn_by Inv (Ok middle) next after first rest is = rest middle (first middle refl) is

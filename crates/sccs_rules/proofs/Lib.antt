@@ -1,7 +1,6 @@
 pub mod Digits
 pub mod FlagPlaces
 pub mod FlagRules
-pub mod InTurn
 pub mod KeptUsers
 pub mod Parts
 pub mod Spaced

@@ -107,9 +107,6 @@ span_next n to lt =
     let more : to - n ≡ suc (to - (n + 1)) = omega arith in let on : suc n ≡ n + 1 = omega arith in
     ap (span n) more ∙ ap (λ m. n ∷ span m (to - (n + 1))) on
 
-pub span_done : (n to : ℕ) → to ≤ n → span n (to - n) ≡ []
-span_done n to le = let none : to - n ≡ 0 = omega arith in ap (span n) none
-
 -- what is missing before a run of base lines
 missing_run : (n some : ℕ) (rest : List DraftLine) (bound : ℕ) → missing n (map Kept (span n some) ++ rest) bound ≡ missing (n + some) rest bound
 missing_run n zero rest bound = let same : n ≡ n + 0 = omega arith in ap (λ m. missing m rest bound) same

@@ -36,9 +36,6 @@ place_equal x y is =
 
 -- ---- the range of one SID
 
-trunk_same : (a b c d : ℕ) → ((nat_lt a b || (a == b && nat_le c d)) && (nat_lt b a || (b == a && nat_le d c))) ≡ (((b == a && d == c) && true) && true)
-trunk_same a b c d = grind (arith, nat_tests)
-
 branch_same : (a b c d e f g h : ℕ) → ((a == b && (c == d && e == f)) && (nat_le g h && nat_le h g)) ≡ (((b == a && d == c) && f == e) && h == g)
 branch_same a b c d e f g h = grind (arith, nat_tests)
 
@@ -91,13 +88,6 @@ index_more old new before r live free updates has = λ s.
     (λ is. ap (get four_cmp old) (sym (place_equal (place_of r.sid) (place_of s) (sym (four_same (place_of r.sid) (place_of s)) ∙ (here ∙ is)))) ∙ free) (has s)
     ∙ (ap (λ gone. map sid_named (live_where (in_range (single s)) before) ++ cond (not gone && in_range (single s) r.sid) (sid_named r ∷ []) []) (sym live)
     ∙ sym (more_named before r s))))
-
--- a record that is removed
-pub index_same : (old : Deltas) (before : List Record) (r : Record) → r.removed ≡ true → AreDeltas old before → AreDeltas old (before ++ r ∷ [])
-index_same old before r removed has = λ s.
-    has s ∙ (sym (append-nil (map sid_named (live_where (in_range (single s)) before)))
-    ∙ (ap (λ gone. map sid_named (live_where (in_range (single s)) before) ++ cond (not gone && in_range (single s) r.sid) (sid_named r ∷ []) []) (sym removed)
-    ∙ sym (more_named before r s)))
 
 -- ---- what is looked up
 

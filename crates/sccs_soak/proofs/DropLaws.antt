@@ -1,6 +1,5 @@
 -- What a step is without its output.
-use Rattle.std.proofs.Common.{◌≡◌, ◌⊎◌, ℕ, Bool, true, List, [], Option, None, Some, map, IfSome, Result, Ok, Err, inl, inr, refl, sym, ap, subst, arith}
-use Rattle.sccs_base.specs.Stream.{Rose}
+use Rattle.std.proofs.Common.{◌≡◌, ◌⊎◌, ℕ, Bool, true, List, [], Option, None, Some, map, IfSome, Result, Ok, Err, inl, inr, refl, sym, ap, subst}
 use Rattle.sccs_base.proofs.Gifts.{gives_none, some_none}
 use Rattle.sccs_disk.specs.Files.{Model, View, view_of}
 use Rattle.sccs_disk.specs.Told.{Told, seen}
@@ -10,11 +9,9 @@ use Rattle.sccs_name_files.specs.StepFiles.{Files, MovesEarly, look, moved}
 use Rattle.sccs_steps.specs.FirstFiles.{MovesInOrder}
 use Rattle.sccs_steps.specs.Actions.{Action, IsHeard, SpeaksAs, SpeaksByAs, SteppedAs}
 use Rattle.sccs_steps.specs.Calls.{Meets, Scene, Uncommitted, World, scene, shown, world}
-use Rattle.sccs_steps.specs.Causes.{StepCauses, counts}
 use Rattle.sccs_steps.specs.StepEffects.{Outcome, effect_of}
 use Rattle.sccs_steps.specs.StepStops.{After, Before, Ends, MeetsAtAs, Place, StepCrashPointsAs, Within, place_as}
 use Rattle.sccs_soak.specs.Dropping.{could_drop, dropped, dropped_effect, dropping}
-use Rattle.sccs_base.proofs.Rises.{never_rose}
 
 pub new_is : (n : List ℕ) (o : Outcome) → (effect_of n (dropped o)).new ≡ (effect_of n o).new
 new_is n (Ok d) = refl
@@ -99,18 +96,3 @@ module _ {X : Type 0} (code : X → ℕ) (n : List ℕ) where
 
   pub dropped_speaks : (could : Outcome → Bool) (r : Result X StepFault) (a b err : Option (List ℕ)) → SpeaksByAs code could r n a b → SpeaksByAs code (could_drop could) r n err err
   dropped_speaks could r a b err says = (dropped says.0, could_so could says.0 says.1, speaks_so r says.0 a b err says.2)
-
-pub dropped_causes : {X : Type 0} (r : Result X StepFault) (i i2 o e d d2 : ℕ) → StepCauses r (counts i 0 0 d) (counts i2 0 0 d2) → StepCauses r (counts i o e d) (counts i2 o e d2)
-dropped_causes r i i2 o e d d2 causes = record {
-  input_later = causes.input_later;
-  out_later = omega arith;
-  err_later = omega arith;
-  disk_later = causes.disk_later;
-  read = causes.read;
-  write = λ is. said (causes.write is);
-  broke = causes.broke;
-}
-  where
-    said : Rose 0 0 ⊎ Rose 0 0 → Rose o o ⊎ Rose e e
-    said (inl rose) = absurd (never_rose rose)
-    said (inr rose) = absurd (never_rose rose)

@@ -1,7 +1,6 @@
 -- What a summary counts and prints.
 use Rattle.std.proofs.Common.{◌≡◌, ℕ, suc, ◌<◌, ◌≤◌, Bool, true, false, not, cond, ◌&&◌, ◌==◌, List, [], ◌∷◌, length, find, Option, None, Some, option_map, Result, Ok, Err, inl, inr, refl, sym, ap, subst, ◌∙◌, arith}
 use Rattle.std.specs.Prelude.{IfSome}
-use Rattle.sccs_base.proofs.Gifts.{some_none}
 use Rattle.sccs_disk.specs.Files.{Folder, View}
 use Rattle.sccs_disk.specs.Told.{Told, seen}
 use Rattle.sccs_sid.specs.declared.refusals.StepFault.{StepFault}
@@ -48,7 +47,7 @@ use Rattle.sccs_soak.specs.Commands.{soak_file}
 use Rattle.sccs_soak.specs.Counting.{CountsLines}
 use Rattle.sccs_soak.specs.Keeps.{from_file, outcome_is}
 use Rattle.sccs_soak.specs.Soak.{BegunSummary, WholeSummary}
-use Rattle.sccs_soak.specs.Summaries.{four_lines, lines_by, live_count, newest_trunk, summary_action, summary_step_list, summary_outcome, summary_text, trunk_lines}
+use Rattle.sccs_soak.specs.Summaries.{lines_by, newest_trunk, summary_action, summary_step_list, summary_outcome, summary_text}
 use Rattle.sccs_soak.proofs.SoakStepLists.{memory_causes}
 
 -- ---- the newest delta of the trunk
@@ -84,19 +83,6 @@ fault_counts serial records items text ReadFault a b some = absurd some
 fault_counts serial records items text (Refused refusal) a b some = absurd some
 
 -- ---- what is printed
-
-pub uncounted_prints : (serial : Option ℕ) (records : List Record) (items : List Item) (text : List ℕ) (fault : StepFault) (a : Option (List ℕ)) → CountsLines serial records items (Err fault) → PrintsAll {T = Unit {0}} text (Err fault) a a
-uncounted_prints serial records items text Memory a counts = some_none a text
-uncounted_prints serial records items text DiskFault a counts = some_none a text
-uncounted_prints serial records items text WriteFault a counts = some_none a text
-uncounted_prints serial records items text ReadFault a counts = absurd counts
-uncounted_prints serial records items text (Refused refusal) a counts = absurd counts
-
-pub lines_are : (rounds deltas lines sum : ℕ) (records : List Record) (items : List Item) (told : Option (List ℕ)) (front : Front) (bytes : List ℕ) → front.header.records ≡ records → front.sum ≡ sum → deltas ≡ live_count records → lines ≡ trunk_lines records items → IsListedFile told front bytes items
-    → four_lines rounds deltas lines sum ≡ summary_text rounds (Some bytes) records items
-lines_are rounds deltas lines sum records items told front bytes same sum_is live trunk listed =
-    ap (λ n. four_lines rounds n lines sum) live
-    ∙ (ap (λ n. four_lines rounds (live_count records) n sum) trunk ∙ ap (λ n. four_lines rounds (live_count records) (trunk_lines records items) n) (sym sum_is ∙ listed.front_is.sum))
 
 -- ---- the step
 

@@ -1,10 +1,10 @@
 -- What comes next in rising numbers.
 use Rattle.std.proofs.Common.{◌≡◌, ◌≢◌, ℕ, zero, suc, ◌+◌, ◌<◌, ◌≤◌, ◌==◌, Bool, true, false, cond, ◌||◌, List, [], ◌∷◌, Option, None, Some, length, refl, sym, ap, subst, ◌∙◌, arith, eq-eqb}
-use Rattle.std.specs.List.{AllByRecursion, slice_get}
+use Rattle.std.specs.List.{slice_get}
 use Rattle.std.proofs.lemmas.Bool.{ne_eqb, eqb-true, eqb-false}
 use Rattle.std.proofs.lemmas.Option.{slice_get_past}
 use Rattle.sccs_history.specs.Numbers.{has}
-use Rattle.sccs_script_laws.specs.Plans.{added_after, IsInOrder, places_of, RisesFrom}
+use Rattle.sccs_script_laws.specs.Plans.{added_after, places_of, RisesFrom}
 use Rattle.sccs_script_laws.specs.declared.scripts.Added.{Added}
 use Rattle.sccs_script_laws.specs.declared.scripts.Plan.{Plan}
 use Rattle.sccs_splicer.specs.PlanPlaces.{is_next, next_place, Stands, StandsInPlan}
@@ -24,10 +24,6 @@ has_next b zero (n ∷ ns) stands =
 has_next b (suc i) (n ∷ ns) stands =
     ap (λ t. t || has ns b) (ne_eqb n b (λ e. omega (arith, stands.before.0)))
     ∙ has_next b i ns (record { before = stands.before.1; behind = stands.behind })
-
-below_more : (b : ℕ) (ns : List ℕ) → AllByRecursion (λ m. m < b) ns → AllByRecursion (λ m. m < suc b) ns
-below_more b [] below = tt
-below_more b (n ∷ ns) below = (omega (arith, below.0), below_more b ns below.1)
 
 -- the place goes on behind a number
 pub stands_next : (b i : ℕ) (ns : List ℕ) → Stands b i ns → Stands (suc b) (next_place (slice_get ns i) i b) ns
@@ -84,9 +80,6 @@ added_other b j added a stands is apart =
 
 pub added_past : (b j : ℕ) (added : List Added) → Stands b j (places_of added) → length added ≤ j → [] ≡ added_after b added
 added_past b j added stands past = sym (added_next b j added stands ∙ ap (λ o. next_lines o b) (slice_get_past added j past))
-
-pub begins_at : (p : Plan) → IsInOrder p → StandsInPlan p 0 0 0
-begins_at p order = record { deleted = record { before = tt; behind = order.deleted }; added = record { before = tt; behind = order.added } }
 
 -- both places, behind the next line
 pub stood_at : (p : Plan) (line i j i2 j2 : ℕ) (deleted added : Option ℕ) → StandsInPlan p line i j → deleted ≡ slice_get p.deleted i → added ≡ slice_get (places_of p.added) j

@@ -1,5 +1,5 @@
 -- Items that are pushed one after the other, and what was put at the end.
-use Rattle.std.proofs.Common.{◌≤◌, ◌≡◌, ℕ, suc, ◌+◌, Bool, true, false, List, [], ◌∷◌, ◌++◌, length, Result, Ok, Err, OnOk, refl, sym, ap, subst, ◌∙◌, append_assoc, append-nil, arith}
+use Rattle.std.proofs.Common.{◌≤◌, ◌≡◌, ℕ, suc, ◌+◌, Bool, true, false, List, [], ◌∷◌, ◌++◌, length, Result, Ok, Err, OnOk, refl, sym, ap, subst, ◌∙◌, append-nil, arith}
 use Rattle.sccs_disk.specs.Told.{Told}
 use Rattle.sccs_disk.specs.declared.disks.DiskRefusal.{DiskRefusal}
 use Rattle.sccs_history.specs.Numbers.{front_if}
@@ -10,12 +10,9 @@ use Rattle.sccs_history.specs.declared.headers.Item.TheVariants.{Text, Insert, D
 use Rattle.sccs_script_laws.specs.Places.{told_behind}
 use Rattle.sccs_writers.specs.Puts.{PutsText, Writer}
 use Rattle.sccs_writers.specs.Spelled.{spelled}
-use Rattle.sccs_writers.proofs.PutLaws.{puts_nothing, text_both, text_cut}
+use Rattle.sccs_writers.proofs.PutLaws.{text_both}
 use Rattle.sccs_splicer.specs.Splices.{base_count, SplicesOn, items_owed, Splices, SplicerState}
 use Rattle.sccs_splicer.proofs.Spelling.{spelled_both}
-
-goes_none : (s : SplicerState) → SplicesOn [] [] s s
-goes_none s = record { owes = λ rest. refl; line = omega arith; plan = refl }
 
 pub count_both : (xs ys : List (Item × Bool)) → base_count (xs ++ ys) ≡ base_count xs + base_count ys
 count_both [] ys = omega arith
@@ -25,38 +22,8 @@ count_both ((Insert m, visible) ∷ xs) ys = count_both xs ys
 count_both ((Delete m, visible) ∷ xs) ys = count_both xs ys
 count_both ((End m, visible) ∷ xs) ys = count_both xs ys
 
-goes_both : (xs ys : List (Item × Bool)) (first more : List Item) (s s2 s3 : SplicerState) → SplicesOn xs first s s2 → SplicesOn ys more s2 s3 → SplicesOn (xs ++ ys) (first ++ more) s s3
-goes_both xs ys first more s s2 s3 one two = record {
-  owes = λ rest.
-      append_assoc first more (items_owed s3 rest)
-      ∙ (ap (λ l. first ++ l) (two.owes rest) ∙ (one.owes (ys ++ rest) ∙ ap (items_owed s) (sym (append_assoc xs ys rest))));
-  line = omega (arith, one.line, two.line, count_both xs ys);
-  plan = two.plan ∙ one.plan;
-}
-
 ok_goes : {T : Type 0} (P : Type 0) (r : Result T DiskRefusal) (done : T) → r ≡ Ok done → OnOk r P → P
 ok_goes P r done is on = subst (λ (s : Result _ DiskRefusal). OnOk s P) is on
-
--- nothing is pushed yet
-pub splices_none : (s : SplicerState) (w : Writer) (t : Told) (f : ℕ) → Splices {T = Unit {0}} [] s s w w t t f f (Ok tt)
-splices_none s w t f = record { items = []; puts = puts_nothing w t f; goes = goes_none s }
-
--- more items are pushed behind some
-pub splices_both : {T U : Type 0} (xs ys : List (Item × Bool)) (s s2 s3 : SplicerState) (w w2 w3 : Writer) (a b c : Told) (f g h : ℕ) (q : Result U DiskRefusal) (r : Result T DiskRefusal) (done : U) (last : T)
-    → q ≡ Ok done → r ≡ Ok last → Splices xs s s2 w w2 a b f g q → Splices ys s2 s3 w2 w3 b c g h r → Splices (xs ++ ys) s s3 w w3 a c f h r
-splices_both xs ys s s2 s3 w w2 w3 a b c f g h q r done last is so one two = record {
-  items = one.items ++ two.items;
-  puts = subst (λ text. PutsText text w w3 a c f h r) (sym (spelled_both one.items two.items)) (text_both (spelled one.items) (spelled two.items) w w2 w3 a b c f g h q r done is one.puts two.puts);
-  goes = subst (λ (t : Result _ DiskRefusal). OnOk t (SplicesOn (xs ++ ys) (one.items ++ two.items) s s3)) (sym so)
-      (goes_both xs ys one.items two.items s s2 s3 (ok_goes (SplicesOn xs one.items s s2) q done is one.goes) (ok_goes (SplicesOn ys two.items s2 s3) r last so two.goes));
-}
-
--- a push behind others fails: what was put of a longer text
-pub splices_fails : {T U V : Type 0} (xs ys : List (Item × Bool)) (s s2 s3 : SplicerState) (w w2 w3 : Writer) (a b c : Told) (f g h : ℕ) (q : Result U DiskRefusal) (r : Result T DiskRefusal) (t : Result V DiskRefusal) (done : U) (refusal : DiskRefusal) (text : List ℕ)
-    → q ≡ Ok done → r ≡ Err refusal → t ≡ Err refusal → Splices xs s s2 w w2 a b f g q → Splices ys s2 s3 w2 w3 b c g h r → PutsText text w w3 a c f h t
-splices_fails xs ys s s2 s3 w w2 w3 a b c f g h q r t done refusal text is failed so one two =
-    text_cut (spelled one.items ++ spelled two.items) text w w3 a c f h r t refusal failed so
-    (text_both (spelled one.items) (spelled two.items) w w2 w3 a b c f g h q r done is one.puts two.puts)
 
 -- all items are pushed, and what is owed behind them is put
 pub splices_end : {T U : Type 0} (told : List (Item × Bool)) (s s2 : SplicerState) (w w2 w3 : Writer) (a b c : Told) (f g h : ℕ) (q : Result U DiskRefusal) (r : Result T DiskRefusal) (done : U)

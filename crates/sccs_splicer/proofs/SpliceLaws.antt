@@ -1,5 +1,5 @@
 -- Items are pushed one after the other: what is put, and what is still owed.
-use Rattle.std.proofs.Common.{◌≡◌, ℕ, suc, ◌+◌, Bool, true, false, not, ◌&&◌, List, [], ◌∷◌, ◌++◌, refl, sym, ap, ◌∙◌, append_assoc, append-nil, arith}
+use Rattle.std.proofs.Common.{◌≡◌, ℕ, suc, ◌+◌, Bool, true, false, not, ◌&&◌, List, [], ◌∷◌, ◌++◌, refl, sym, ap, ◌∙◌, append_assoc, arith}
 use Rattle.std.proofs.lemmas.Bool.{false≢true}
 use Rattle.sccs_history.specs.Numbers.{front_if, has, is_empty}
 use Rattle.sccs_history.specs.declared.headers.Item.{Item}
@@ -108,12 +108,6 @@ goes_line s text = record {
   line = omega arith;
   plan = refl;
 }
-
--- what is owed behind the last item
-pub owed_last : (s : SplicerState) → settled_items s false ≡ items_owed s []
-owed_last s =
-    ap (λ l. front_if (s.opened && true) (End s.serial) (due_lines s ++ l)) (sym (append-nil s.held))
-    ∙ ap (λ t. owed_by s t []) (sym (no_next s.opened (is_empty (added_after s.line s.plan.added)) (has s.plan.deleted (suc s.line))))
 
 -- before all items what is owed is all
 pub owed_first : (n : ℕ) (p : Plan) (told : List (Item × Bool)) → items_owed (new_splice n p) told ≡ spliced p n told

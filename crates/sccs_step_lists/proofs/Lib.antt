@@ -1,7 +1,6 @@
 pub mod StepListCrashPointLaws
 pub mod FineLoops
 pub mod JoinedStepLists
-pub mod Loops
 pub mod OneAction
 pub mod OwnFiles
 pub mod Portions

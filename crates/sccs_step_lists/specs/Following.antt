@@ -100,11 +100,6 @@ BegunThen whole begun begun2 ts =
 
 -- ---- loops
 
--- however a call follows the rest of a list of steps from here, all of it is followed so from the start
-abbrev pub Leads : StepLists → (List ℕ → Type 0) → (ℕ → List NamedStep → Type 0) → (List NamedStep → Type 0) → Setting → StepLists → (List ℕ → Type 0) → (ℕ → List NamedStep → Type 0) → (List NamedStep → Type 0) → Setting → Type 0
-Leads all given whole begun s rest given2 whole2 begun2 t =
-    (r : Result ℕ Fault) (u : Setting) → RunsStepList rest given2 whole2 begun2 r t u → RunsStepList all given whole begun r s u
-
 -- over any disk: steps of several things in turn, and then those of the last list of steps
 abbrev pub WholeList : {X : Type 0} → (X → ℕ → List NamedStep → Type 0) → (ℕ → List NamedStep → Type 0) → List X → ℕ → List NamedStep → Type 0
 WholeList whole last [] = last

@@ -46,10 +46,6 @@ clear_moved reads w m n new a b (inl all) same none shows moves =
 clear_moved reads w m n new a b (inr apart) same none shows moves =
     subst (λ (v : View). Shows w b v) (sym (moved_view m n new)) (shows_moved w n new (view_in m) a b apart shows moves)
 
-pub clear_same : (reads : Bool) (w : List ℕ → Bool) (m : Folder) (n : List ℕ) (a b : Option View) → IsClear reads w n → (reads ≡ true → b ≡ a)
-    → Shows w a (view_in m) → Moves (is_working n) (λ u. u) a b → Shows w b (view_in m)
-clear_same reads w m n a b clear same shows moves = clear_moved reads w m n None a b clear same (λ is. refl) shows moves
-
 -- of a step that isn't made at most the l-file is new
 pub clear_early : (reads : Bool) (w : List ℕ → Bool) (m : Folder) (n : List ℕ) (new : Option Files) (a b : Option View) → IsClear reads w n → (reads ≡ true → b ≡ a)
     → Shows w a (view_in m) → MovesEarly n new a b → (first : Bool) × Shows w b (early_moved first (view_in m) n new)

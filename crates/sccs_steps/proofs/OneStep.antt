@@ -116,9 +116,6 @@ refusal_ends rule w m n o refusal (Err DiskFault) a b is shows cleared out said 
 
 -- ---- a step that was called, and how its operand ends
 
-with_err : World → Option (List ℕ) → World
-with_err b e = world b.view b.out e
-
 kept_with : (n : List ℕ) (new : Option Files) (text : List ℕ) (a b : World) (e : Option (List ℕ)) → e ≡ b.err → Uncommitted n new text a b → Uncommitted n new text a (world b.view b.out e)
 kept_with n new text a b e same kept = record { view = kept.view; cleared = kept.cleared; out = kept.out; err = same ∙ kept.err }
 

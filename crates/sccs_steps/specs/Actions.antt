@@ -182,9 +182,6 @@ SpeaksAs code (Ok x) n o err err2 = (d : StepEffect) × (o ≡ Ok d) × (d.statu
 SpeaksAs code (Err (Refused refusal)) n o err err2 = (o ≡ Err refusal) × (err2 ≡ err)
 SpeaksAs code (Err fault) n o err err2 = GivesSome err err2 (effect_of n o).err
 
-abbrev pub Speaks : Result (Unit {0}) StepFault → List ℕ → Outcome → Option (List ℕ) → Option (List ℕ) → Type 0
-Speaks r n o err err2 = SpeaksAs (λ (done : Unit {0}). 0) r n o err err2
-
 -- an outcome that may come explains the answer and what is written on err
 abbrev pub SpeaksByAs : {X : Type 0} → (X → ℕ) → (Outcome → Bool) → Result X StepFault → List ℕ → Option (List ℕ) → Option (List ℕ) → Type 0
 SpeaksByAs code could r n err err2 = (o : Outcome) × (could o ≡ true) × SpeaksAs code r n o err err2

@@ -1,9 +1,8 @@
 -- What a step does with the files that it sees.
-use Rattle.std.specs.Prelude.{◌≡◌, ℕ, Bool, true, false, List, [], Option, None, Some, Result, Ok, Err, IfSome}
+use Rattle.std.specs.Prelude.{◌≡◌, ℕ, Bool, true, false, List, [], Option, None, Some, Result, Ok, Err}
 use Rattle.sccs_sid.specs.Refusal.{refusal_line}
 use Rattle.sccs_sid.specs.declared.refusals.Refusal.{Refusal}
-use Rattle.sccs_disk.specs.Files.{View}
-use Rattle.sccs_name_files.specs.StepFiles.{Files, look}
+use Rattle.sccs_name_files.specs.StepFiles.{Files}
 
 -- What a step that is accepted does.
 pub record StepEffect : Type 0 where
@@ -34,7 +33,3 @@ there (Some x) refusal = Ok x
 abbrev pub effect_of : List ℕ → Outcome → StepEffect
 effect_of name (Ok effect) = effect
 effect_of name (Err refusal) = record { new = None; text = []; out = []; err = refusal_line name refusal; status = 1 }
-
--- what a step sees of a disk: the view's files, where a view is told
-abbrev pub Sees : Option View → List ℕ → Files → Type 0
-Sees told n f = IfSome told (λ v. f ≡ look v n)

@@ -13,7 +13,7 @@ use Rattle.sccs_tokens.specs.declared.line_tokens.LineToken.{LineToken}
 use Rattle.sccs_grammar.specs.declared.faults.FileFault.{FileFault}
 use Rattle.sccs_grammar.specs.declared.faults.FileFault.TheVariants.{Missing, TooLong, NotSccs, BadSum, BadFormat, Encoded, Changed, Failed, Memory}
 use Rattle.sccs_table.specs.ReaderState.{ReaderState, StandsIn, TakesLine, left}
-use Rattle.sccs_table.specs.FrontFile.{AnswersLine, HearsLine, AcceptsNext, IsFirst, Reads, ReadsLines, read_as}
+use Rattle.sccs_table.specs.FrontFile.{AnswersLine, AcceptsNext, IsFirst, Reads, read_as}
 
 front-nil : (n : ℕ) (r : HeaderParser) → front_from n r [] ≡ Err n
 unfolding front_from
@@ -113,10 +113,6 @@ GoesLines None begun r0 n0 now r n = Unit {0}
 GoesLines (Some file) begun r0 n0 now r n =
     StandsIn begun file → StandsIn now file × ((left begun file).tail ≡ (left now file).tail) × (front_from n0 r0 (left begun file).lines ≡ front_from n r (left now file).lines)
 
-pub lines_begin : (o : Option (List ℕ)) (begun : ReaderState) (r : HeaderParser) (n : ℕ) → GoesLines o begun r n begun r n
-lines_begin None begun r n = tt
-lines_begin (Some file) begun r n = λ stands. (stands, refl, refl)
-
 pub lines_on : (o p : Option (List ℕ)) (begun now new : ReaderState) (r0 r s : HeaderParser) (n0 n : ℕ) → p ≡ o → GoesLines o begun r0 n0 now r n → AcceptsNext p now new n r (Ok s) → is_whole s.state ≡ false → GoesLines o begun r0 n0 new s (n + 1)
 lines_on None p begun now new r0 r s n0 n is goes hears more = tt
 lines_on (Some file) p begun now new r0 r s n0 n is goes hears more = λ stands.
@@ -138,20 +134,3 @@ lines_done (Some file) p begun now new r0 r s n0 n is goes hears whole = λ stan
       here.1 ∙ ap (λ (c : Cut). c.tail) heard_here.1.1,
       here.2 ∙ (ap (λ (c : Cut). front_from n r c.lines) heard_here.1.1 ∙ (front_whole n r s heard_here.1.0 (left new file).lines heard_here.1.2 whole ∙ ap (λ k. Ok (front_at s k (left new file).lines)) one)),
     )
-
-fault_at : (file : List ℕ) (begun now new : ReaderState) (r0 r : HeaderParser) (n0 n : ℕ) (e : FileFault) → front_from n0 r0 (left begun file).lines ≡ front_from n r (left now file).lines → HearsLine file now new n r (Err e) → ReadsLines file begun new r0 n0 (Err e)
-fault_at file begun now new r0 r n0 n Missing same hears = hears
-fault_at file begun now new r0 r n0 n TooLong same hears = hears
-fault_at file begun now new r0 r n0 n NotSccs same hears = hears
-fault_at file begun now new r0 r n0 n (BadSum s c) same hears = hears
-fault_at file begun now new r0 r n0 n (BadFormat k) same hears = same ∙ hears
-fault_at file begun now new r0 r n0 n Encoded same hears = hears
-fault_at file begun now new r0 r n0 n (Changed a b c d) same hears = hears
-fault_at file begun now new r0 r n0 n Failed same hears = tt
-fault_at file begun now new r0 r n0 n Memory same hears = tt
-
-pub lines_fault : (o p : Option (List ℕ)) (begun now new : ReaderState) (r0 r : HeaderParser) (n0 n : ℕ) (e : FileFault) → p ≡ o → GoesLines o begun r0 n0 now r n → AcceptsNext p now new n r (Err e) → Reads o begun new r0 n0 (Err e)
-lines_fault None p begun now new r0 r n0 n e is goes hears = tt
-lines_fault (Some file) p begun now new r0 r n0 n e is goes hears = λ stands.
-    let here = goes stands in
-    fault_at file begun now new r0 r n0 n e here.2 ((subst (λ q. AcceptsNext q now new n r (Err e)) is hears) here.0)

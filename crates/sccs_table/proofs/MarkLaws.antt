@@ -41,10 +41,6 @@ empty_by : (test : Bool) (x : ℕ) → (x == 0) ≡ test → bit (not test) ≡ 
 empty_by true x is none = eqb-true x 0 is
 empty_by false x is none = absurd (omega (arith, none))
 
-full_by : (test : Bool) (x : ℕ) → (x == 0) ≡ test → bit (not test) ≡ 1 → x ≢ 0
-full_by true x is some = absurd (omega (arith, some))
-full_by false x is some = λ empty. no_both (eq-eqb x 0 empty) is
-
 pub unmarked : (marks : PieceMarks) (piece : List ℕ) (m : ℕ) → MarksOf marks piece → m < 64 → bit_at marks.marked m ≡ 0 → bits_of 1 (byte_block m piece) ≡ 0
 unmarked marks piece m are low none = empty_by (bits_of 1 (byte_block m piece) == 0) _ refl (sym (are.marked_are m low) ∙ none)
 
@@ -56,9 +52,6 @@ none_marked marks piece from are none k low high =
 -- a number with a bit is not 0
 pub some_bit : (bits k : ℕ) → bit_at bits k ≡ 1 → bits ≢ 0
 some_bit bits k set none = absurd (omega (arith, set, ap (λ b. bit_at b k) none ∙ bit_at-zero k))
-
-pub marked_block : (marks : PieceMarks) (piece : List ℕ) (m : ℕ) → MarksOf marks piece → m < 64 → bit_at marks.marked m ≡ 1 → bits_of 1 (byte_block m piece) ≢ 0
-marked_block marks piece m are low some = full_by (bits_of 1 (byte_block m piece) == 0) _ refl (sym (are.marked_are m low) ∙ some)
 
 soh_bit : (piece : List ℕ) (n k : ℕ) → 64 * n + 64 ≤ length piece → k < 64 → bit_at (bits_of 1 (byte_block n piece)) k ≡ bit (get_or piece (64 * n + k) 0 == 1)
 soh_bit piece n k fits low =

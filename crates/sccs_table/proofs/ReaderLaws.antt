@@ -10,7 +10,7 @@ use Rattle.std.proofs.Math.Seq.{take-add, take-append_seam, drop-append_seam}
 use Rattle.sccs_tokens.proofs.CutLaws.{cut_line, cut_tail}
 use Rattle.sccs_base.specs.Cut.{HasNoLf, cut}
 use Rattle.sccs_base.proofs.Cuts.{NoLfBefore, no_lf_front, no_lf_all}
-use Rattle.std.proofs.lemmas.Bool.{ltb-false, ltb-true}
+use Rattle.std.proofs.lemmas.Bool.{ltb-false}
 use Rattle.sccs_disk.specs.Files.{View}
 use Rattle.sccs_tokens.specs.Sums.{plain_sum}
 use Rattle.sccs_table.specs.SumOf.{IsPlainSumOf, IsSumOf}
@@ -19,9 +19,6 @@ use Rattle.sccs_table.specs.ReaderState.{ReaderState, StandsIn, Stays, Takes, Ta
 -- a reader that holds the front of a piece
 abbrev pub holding : List ℕ → List ℕ → ℕ → ℕ → ℕ → ReaderState
 holding name held place limit sum = record { name = name; held = held; place = place; limit = limit; sum = sum }
-
-pub fill_more : (piece : List ℕ) (count : ℕ) → count ≤ length piece → ltb 0 count ≡ true → 0 < length (take (count - 0) piece)
-fill_more piece count within more = let some = ltb-true 0 count more in omega (arith, length-take (count - 0) piece)
 
 -- what a call leaves as it was where it reads nothing
 abbrev pub Kept : ReaderState → ReaderState → Type 0
@@ -96,24 +93,10 @@ fill_told view old name held piece place limit sum sum2 count room to is none wi
     let limit_is : to ≤ limit = subst (λ (s : ReaderState). to ≤ s.limit) (sym is) low in
     filled old name piece place limit sum sum2 count room to empty within room_is limit_is added (bytes_in view old.name) (subst (λ n. IfSome (bytes_in view n) (λ file. take count piece ≡ take room (drop place file))) name_is got)
 
--- the reader that read nothing
-pub fill_failed : (o : Option (List ℕ)) (old : ReaderState) (name held piece : List ℕ) (place limit sum : ℕ) → holding name held place limit sum ≡ old → old.held ≡ [] → Stays o old (holding name (take (0 - 0) (drop 0 piece)) place limit sum)
-fill_failed o old name held piece place limit sum is none file same stands = record {
-  limit = subst (λ (s : ReaderState). length file ≤ s.limit) (sym is) stands.limit;
-  within = omega (arith, stands.within, ap (λ (s : ReaderState). s.place) is);
-  held = refl;
-  sum = ap (λ (s : ReaderState). s.sum) is ∙ (stands.sum ∙ ap (λ n. plain_sum (behind_sum (take n file))) (omega (arith, ap length none, ap (λ (s : ReaderState). s.place) is)));
-}
-
 -- what a filled reader is told makes it stay
 pub filled_stays : (o : Option (List ℕ)) (old new : ReaderState) (End : List ℕ → Type 0) → IfSome o (λ file. StandsIn old file → StandsIn new file × End file) → Stays o old new
 filled_stays None old new End told = λ file is stands. cc
 filled_stays (Some other) old new End told = λ file is stands. let same : other ≡ file = cc in subst (λ f. StandsIn new f) same (told (subst (λ f. StandsIn old f) (sym same) stands)).0
-
--- up to the limit is up to the end
-pub filled_whole : (o : Option (List ℕ)) (old new : ReaderState) (more : Bool) (to : ℕ) → to ≡ old.limit → IfSome o (λ file. StandsIn old file → StandsIn new file × (more ≡ false → min to (length file) ≤ new.place)) → IfSome o (λ file. StandsIn old file → StandsIn new file × (more ≡ false → new.place ≡ length file))
-filled_whole None old new more to is told = tt
-filled_whole (Some file) old new more to is told = λ stands. let here = told stands in (here.0, λ none. let past = here.1 none in omega (arith, stands.limit, here.0.within))
 
 -- one call behind another
 pub stays_on : (o p : Option (List ℕ)) (old now new : ReaderState) → p ≡ o → Stays o old now → Stays p now new → Stays o old new
@@ -322,10 +305,6 @@ held_past_line old name piece start end place limit sum count is fits =
 abbrev pub Summing : Option (List ℕ) → ReaderState → ReaderState → ℕ × ℕ → Type 0
 Summing None start now sum = Unit {0}
 Summing (Some file) start now sum = StandsIn start file → StandsIn now file × ((front : List ℕ) × IsSumOf sum front × (drop start.place file ≡ front ++ drop now.place file))
-
-pub summing_start : (o : Option (List ℕ)) (start : ReaderState) (sum : ℕ × ℕ) → IsSumOf sum [] → Summing o start start sum
-summing_start None start sum none = tt
-summing_start (Some file) start sum none = λ stands. (stands, ([], none, refl))
 
 emptied_stands : (now gone : ReaderState) (file : List ℕ) → StandsIn now file → Kept now gone → gone.held ≡ [] → gone.place ≡ now.place + length now.held → StandsIn gone file
 emptied_stands now gone file here kept held_is place_is =

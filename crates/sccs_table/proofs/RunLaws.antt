@@ -181,10 +181,6 @@ no_run = (refl, tt)
 
 -- ---- where the searches end
 
--- what is searched is what is left of the bytes
-pub before_in : (bytes : List ℕ) (from n : ℕ) → from + n ≤ length bytes → ((k : ℕ) → 0 ≤ k → k < n → get_or (take (length bytes - from) (drop from bytes)) k 0 ≢ 1) → (k : ℕ) → 0 ≤ k → k < n → get_or (drop from bytes) k 0 ≢ 1
-before_in bytes from n fits before k low below is = before k low below (get_or-take (length bytes - from) (drop from bytes) k 0 (omega arith) ∙ is)
-
 -- one place more without a mark
 no_mark_from : (bytes : List ℕ) (from at k : ℕ) → ((k : ℕ) → 0 ≤ k → k < at → get_or (drop from bytes) k 0 ≢ 1) → from ≤ suc k → suc k < from + at → get_or bytes (suc k) 0 ≢ 1
 no_mark_from bytes from at k before low below =

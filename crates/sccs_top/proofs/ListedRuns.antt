@@ -1,5 +1,5 @@
 -- The steps of the operands that a command lists are those of the command.
-use Rattle.std.proofs.Common.{◌≡◌, ℕ, Bool, true, false, List, [], ◌∷◌, Option, None, Some, Result, codes, refl, sym, subst, ◌∙◌}
+use Rattle.std.proofs.Common.{◌≡◌, ℕ, Bool, true, false, List, [], ◌∷◌, Option, Some, Result, codes, refl, sym, subst, ◌∙◌}
 use Rattle.std.specs.Prelude.{if◌then◌else◌}
 use Rattle.std.specs.List.{list_any}
 use Rattle.sccs_steps.specs.Actions.{Action, IsHeard, hears, kind_hears, kind_of}
@@ -18,9 +18,6 @@ runs_as x y listed operands r s s2 same_action same_operands runs =
     subst (λ (a : Action). RunsOperands a operands r s s2) same_action (subst (λ (words : List (List ℕ)). RunsOperands x words r s s2) same_operands runs)
 
 -- ---- a command that lists operands, and val
-
-pub operands_run : (val : Option ValWords) (x : Action) (operands : List (List ℕ)) (r : Result ℕ Fault) (s s2 : Setting) → val ≡ None → RunsOperands x operands r s s2 → RunsCommand val x operands r s s2
-operands_run val x operands r s s2 none runs = subst (λ (o : Option ValWords). RunsCommand o x operands r s s2) (sym none) runs
 
 -- val takes the input where its words say so
 hears_by : (takes : Bool) → list_any (λ operand. kind_hears takes (kind_of takes operand)) (if takes then codes "-" ∷ [] else []) ≡ takes

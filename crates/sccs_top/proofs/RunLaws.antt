@@ -16,7 +16,7 @@ use Rattle.sccs_group.specs.Finishing.{CanFinish}
 use Rattle.sccs_recovery.specs.AnyDisk.{RecoversAll}
 use Rattle.sccs_steps.specs.Actions.{Action, hears}
 use Rattle.sccs_steps.specs.Calls.{Scene, World, shown}
-use Rattle.sccs_steps.specs.Causes.{Counts, Ignores, RunCauses, counts}
+use Rattle.sccs_steps.specs.Causes.{Ignores, RunCauses, counts}
 use Rattle.sccs_steps.specs.Running.{IsInput}
 use Rattle.sccs_steps.specs.Settings.{Setting}
 use Rattle.sccs_steps.specs.StepLists.{NamedStep, err_of, next_text}
@@ -55,7 +55,6 @@ use Rattle.sccs_words.specs.declared.commands.Command.TheVariants as c
 use Rattle.sccs_top.specs.declared.commands.CommandList.TheVariants as list
 use Rattle.sccs_top.specs.declared.answers.Answer.{Answer}
 use Rattle.sccs_top.specs.declared.answers.Answer.TheVariants.{Finished, Memory, ReadFault, WriteFault, DiskFault}
-use Rattle.sccs_base.proofs.Rises.{never_rose}
 use Rattle.std.proofs.lemmas.Bool.{and_parts}
 
 -- ---- single commands
@@ -156,18 +155,7 @@ soak_runs number who command r s t left left2 count none none2 runs =
     (step_list_chosen (λ i. soak_step_list (entry_command true who.place) number) (soak_step_list (entry_command true who.place) number) (λ i. Unit {0}) (λ i. AllByRecursion (FitsEntry true who.place) (soak_commands number))
     (WholeSoak (WholeOf true who.place) number) (BegunSoak (WholeOf true who.place) (BegunOf true who.place) number) r s t runs.takes (λ i any. refl) (λ i any. soak_fits true who.place number) runs)
 
-pub listed_leaves : (who : Caller) (command : Command) (some : CommandList) (r : Result ℕ Fault) (s t : Setting) → list_in command ≡ Some some → LeavesMeant who command r s t
-listed_leaves who command some r s t is none = absurd (let no : Some some ≡ None = sym is ∙ none in cc)
-
 -- ---- the input
-
-pub batch_input : (who : Caller) (command : Command) (r : Result ℕ Fault) (s t : Setting) → list_in command ≡ Some list.Batch → LeavesInput who command r s t
-batch_input who command r s t is none =
-    absurd (let no : true ≡ false = sym (ap (λ (o : Option CommandList). list_takes_input o (group_takes_input (group_use command) (hears (action_of who command) (operands_of command)))) is) ∙ none in cc)
-
-pub soak_input : (who : Caller) (command : Command) (r : Result ℕ Fault) (s t : Setting) (c c2 : Counts) → t.left ≡ s.left → t.faults.input ≡ s.faults.input → c.input ≡ 0 → c2.input ≡ 0 → RunCauses r c c2 → LeavesInput who command r s t
-soak_input who command r s t c c2 left same none none2 causes is =
-    record { same = left; quiet = same; cause = λ fault. never_rose (subst (λ k. Rose 0 k) none2 (subst (λ k. Rose k c2.input) none (causes.read fault))) }
 
 ignored_with : (group : Option GroupUse) (who : Caller) (command : Command) (r : Result ℕ Fault) (s t : Setting) → LeavesWith group who command r s t → group_takes_input group (hears (action_of who command) (operands_of command)) ≡ false
     → Ignores ends.ReadFault s.left t.left s.faults.input t.faults.input r
@@ -248,11 +236,6 @@ words_are_silent who words asked r s t is leaves only = silent_alone who asked r
 pub input_left : (who : Caller) (words : Result Asked Usage) (asked : Asked) (r : Result ℕ Fault) (s t : Setting) → words ≡ Ok asked → LeavesAskedInput who asked r s t → words_take_input who words ≡ false
     → Ignores ends.ReadFault s.left t.left s.faults.input t.faults.input r
 input_left who words asked r s t is leaves none = leaves (subst (λ (m : Result Asked Usage). words_take_input who m ≡ false) is none)
-
--- no list
-not_listed : (o : Option CommandList) → is_some o ≡ false → o ≡ None
-not_listed None is = refl
-not_listed (Some some) is = absurd (cc)
 
 recovery_leaves : (group : Option GroupUse) (who : Caller) (command : Command) (r : Result ℕ Fault) (s t : Setting) → is_recovery group ≡ true → LeavesWith group who command r s t → RecoversAll r s.stage.told t.stage.told
 recovery_leaves None who command r s t is leaves = absurd cc

@@ -62,11 +62,6 @@ shown_alone set i = by_test (has set i)
     by_test true = refl
     by_test false = refl
 
--- Of a line: whether it is shown and whether the next serial deleted it.
-record Steps (s : ℕ) (line : HistoryLine) : Type 0 where
-  balance : one_if (shows (down (suc s)) line) + one_if (has line.deleters (suc s)) ≡ one_if (shows (down s) line) + one_if (line.inserter == suc s)
-  within : one_if (line.inserter == suc s) ≤ one_if (shows (down (suc s)) line)
-
 -- by the numbers of a line
 record Numbers (s i : ℕ) (ds : List ℕ) : Type 0 where
   balance : one_if (has (down (suc s)) i && not (share ds (down (suc s)))) + one_if (has ds (suc s)) ≡ one_if (has (down s) i && not (share ds (down s))) + one_if (i == suc s)

@@ -18,9 +18,6 @@ laid_alike i f g (line ∷ lines) alike = by_test (is_open line) (laid_alike i f
     by_test true rest = ap (λ l. begun_by i line ∷ l) (alike lines)
     by_test false rest = ap (λ l. line ∷ l) rest
 
-begun_closed : (j : ℕ) (line : HistoryLine) → is_open (begun_by (suc j) line) ≡ false
-begun_closed j line = refl
-
 -- a line that was passed and stays open
 at_open : (i : ℕ) (f g h : List HistoryLine → List HistoryLine) (lines : List HistoryLine) → ((rest : List HistoryLine) → f rest ≡ g (h rest))
     → laid_at i f lines ≡ laid_at i g (laid_at 0 h lines)

@@ -30,10 +30,6 @@ abbrev pub those_of : ℕ → List ℕ
 those_of zero = []
 those_of (suc d) = suc d ∷ []
 
-zero_or : (d : ℕ) → (d ≡ 0) ⊎ (0 < d)
-zero_or zero = inl refl
-zero_or (suc d) = inr (omega arith)
-
 not_zero : (d : ℕ) → 0 < d → is_zero d ≡ false
 not_zero zero lt = absurd (omega arith)
 not_zero (suc d) lt = refl

@@ -15,14 +15,6 @@ use Rattle.sccs_trunks.proofs.Behind.{IsBehind, behind_none, behind_put, behind_
 abbrev text_behind : List Change → ℕ → List (List ℕ) → List (List ℕ)
 text_behind changes k lines = added changes k ++ revised_from changes k lines
 
-length_both : (a b : List (List ℕ)) → length (a ++ b) ≡ length a + length b
-length_both [] b = omega arith
-length_both (x ∷ a) b = ap suc (length_both a b) ∙ omega arith
-
-front_length : (t : Bool) (line : List ℕ) (lines : List (List ℕ)) → length (front_if t line lines) ≡ cond t (suc (length lines)) (length lines)
-front_length true line lines = refl
-front_length false line lines = refl
-
 -- ---- lines that are passed, all left or all struck
 
 pass_left : (changes : List Change) (k count : ℕ) (lines : List (List ℕ)) → count ≤ length lines

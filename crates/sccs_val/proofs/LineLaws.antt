@@ -1,18 +1,16 @@
 -- The words of a line, and the command that they are.
-use Rattle.std.proofs.Common.{◌≡◌, ℕ, suc, ◌+◌, ◌<◌, ◌≤◌, nat_lt, ◌&&◌, Err, length, take, drop, flat_map, get_or, add-one, List, [], ◌∷◌, ◌++◌, Bool, true, false, cond, ◌⊎◌, inl, inr, Option, None, Some, Result, Ok, refl, sym, ap, subst, ◌∙◌, append_assoc, append-nil, codes, IfSome}
+use Rattle.std.proofs.Common.{◌≡◌, ℕ, suc, ◌+◌, ◌<◌, ◌≤◌, nat_lt, ◌&&◌, Err, length, take, drop, flat_map, get_or, add-one, List, [], ◌∷◌, ◌++◌, Bool, true, false, cond, ◌⊎◌, inl, inr, Option, None, Some, Result, Ok, refl, sym, ap, subst, ◌∙◌, append_assoc, codes, IfSome}
 use Rattle.std.specs.List.{fold}
 use Rattle.std.specs.Int.Bits.{bit_or}
-use Rattle.std.proofs.lemmas.Bool.{le-ltb, lt-ltb}
 use Rattle.std.proofs.lemmas.List.{take_all}
 use Rattle.std.proofs.lemmas.List.Sums.{fold_more}
 use Rattle.sccs_base.specs.Constants.{file_limit}
 use Rattle.sccs_base.specs.Stream.{GivesOk, GivesSome}
 use Rattle.sccs_base.specs.declared.streams.TakeFault.TheVariants as take
-use Rattle.sccs_base.proofs.Gifts.{gives_both, gives_none, gives_then, part_more, some_longer, some_none}
+use Rattle.sccs_base.proofs.Gifts.{gives_both, gives_none, gives_then, part_more, some_longer}
 use Rattle.sccs_base.proofs.Runs.{pieces_at}
 use Rattle.sccs_disk.specs.Files.{View}
 use Rattle.sccs_base.specs.Cut.{text_of}
-use Rattle.sccs_operands.specs.InputNames.{GivesLines}
 use Rattle.sccs_sid.specs.declared.refusals.Refusal.TheVariants as refusals
 use Rattle.sccs_sid.specs.declared.refusals.StepFault.{StepFault}
 use Rattle.sccs_sid.specs.declared.refusals.StepFault.TheVariants.{Refused, Memory, ReadFault, WriteFault, DiskFault}
@@ -28,12 +26,6 @@ use Rattle.sccs_words.specs.declared.commands.ValWords.{ValWords}
 use Rattle.sccs_words.specs.declared.tables.Utility.TheVariants.{Val}
 use Rattle.sccs_val.specs.Reports.{line_heading, line_status, line_text, line_words, lines_status, val_lines_text, takes_lines, val_status, val_text, words_status, words_text}
 use Rattle.sccs_val.specs.ValStep.{Judges, PrintsStatus, is_long}
-
-pub words_more : (all all2 more ws : List (List ℕ)) (w copy : List ℕ) → all2 ≡ all ++ (copy ∷ []) → copy ≡ w → ws ≡ w ∷ more → all2 ++ more ≡ all ++ ws
-words_more all all2 more ws w copy added same is = ap (λ l. l ++ more) added ∙ (append_assoc all (copy ∷ []) more ∙ (ap (λ x. all ++ (x ∷ more)) same ∙ ap (λ l. all ++ l) (sym is)))
-
-pub words_over : (all old ws whole : List (List ℕ)) → all ++ ws ≡ old ++ whole → ws ≡ [] → all ≡ old ++ whole
-words_over all old ws whole so none = sym (append-nil all) ∙ (ap (λ l. all ++ l) (sym none) ∙ so)
 
 meant : (ws : List (List ℕ)) → meaning (codes "val" ∷ ws) ≡ Ok (commands.Val (val_words (scanned (options_of Val) 2 [] None ws)))
 unfolding meaning utility_of line_meaning
@@ -99,44 +91,6 @@ judges_printed text status (Err Memory) a b within prints = prints
 judges_printed text status (Err ReadFault) a b within prints = prints
 judges_printed text status (Err WriteFault) a b within prints = prints
 judges_printed text status (Err DiskFault) a b within prints = prints
-
--- the lines of an input within the limit
-pub judges_lines : (o : Option View) (left : Option (List ℕ)) (lines : List (List ℕ)) (r : Result ℕ StepFault) (a b : Option (List ℕ)) → IfSome left (λ i. GivesLines file_limit i (Ok lines)) → RefusesWithin [] r
-    → IfSome o (λ v. PrintsStatus (val_lines_text v lines) (lines_status v lines) r a b)
-    → IfSome o (λ v. (i : List ℕ) → left ≡ Some i → Judges (nat_lt file_limit (length i)) (val_lines_text v (text_of i)) (lines_status v (text_of i)) r a b)
-judges_lines None left lines r a b gives within prints = tt
-judges_lines (Some v) left lines r a b gives within prints = λ i is. by i (subst (λ (t : Option (List ℕ)). IfSome t (λ i. GivesLines file_limit i (Ok lines))) is gives)
-  where
-    by : (i : List ℕ) → (length i ≤ file_limit) × (lines ≡ text_of i) → Judges (nat_lt file_limit (length i)) (val_lines_text v (text_of i)) (lines_status v (text_of i)) r a b
-    by i (within_limit, same) =
-        subst (λ (t : Bool). Judges t (val_lines_text v (text_of i)) (lines_status v (text_of i)) r a b) (sym (le-ltb file_limit (length i) within_limit))
-        (subst (λ (l : List (List ℕ)). Judges false (val_lines_text v l) (lines_status v l) r a b) same (judges_printed (val_lines_text v lines) (lines_status v lines) r a b within prints))
-
--- one past it
-pub judges_long : (o : Option View) (left : Option (List ℕ)) (a : Option (List ℕ)) → IfSome left (λ i. GivesLines file_limit i (Err take.TooLong))
-    → IfSome o (λ v. (i : List ℕ) → left ≡ Some i → Judges (nat_lt file_limit (length i)) (val_lines_text v (text_of i)) (lines_status v (text_of i)) (Err (Refused refusals.TooLong)) a a)
-judges_long None left a gives = tt
-judges_long (Some v) left a gives = λ i is. (lt-ltb file_limit (length i) (subst (λ (t : Option (List ℕ)). IfSome t (λ i. GivesLines file_limit i (Err take.TooLong))) is gives), refl, refl)
-
--- one that wasn't taken
-abbrev pub IsUntaken : StepFault → Type 0
-IsUntaken (Refused refusal) = ⊥
-IsUntaken Memory = Unit {0}
-IsUntaken ReadFault = Unit {0}
-IsUntaken WriteFault = Unit {0}
-IsUntaken DiskFault = Unit {0}
-
-untaken : (long : Bool) (text : List ℕ) (status : ℕ) (fault : StepFault) (a : Option (List ℕ)) → IsUntaken fault → Judges long text status (Err fault) a a
-untaken long text status (Refused refusal) a is = absurd is
-untaken long text status Memory a is = some_none a (cond long [] text)
-untaken long text status ReadFault a is = some_none a (cond long [] text)
-untaken long text status WriteFault a is = some_none a (cond long [] text)
-untaken long text status DiskFault a is = some_none a (cond long [] text)
-
-pub judges_untaken : (o : Option View) (left : Option (List ℕ)) (fault : StepFault) (a : Option (List ℕ)) → IsUntaken fault
-    → IfSome o (λ v. (i : List ℕ) → left ≡ Some i → Judges (nat_lt file_limit (length i)) (val_lines_text v (text_of i)) (lines_status v (text_of i)) (Err fault) a a)
-judges_untaken None left fault a is = tt
-judges_untaken (Some v) left fault a is = λ i heard. untaken (nat_lt file_limit (length i)) (val_lines_text v (text_of i)) (lines_status v (text_of i)) fault a is
 
 pub val_by_lines : (o : Option View) (w : ValWords) (left : Option (List ℕ)) (r : Result ℕ StepFault) (a b : Option (List ℕ)) → takes_lines w ≡ true
     → IfSome o (λ v. (i : List ℕ) → left ≡ Some i → Judges (nat_lt file_limit (length i)) (val_lines_text v (text_of i)) (lines_status v (text_of i)) r a b)

@@ -1,24 +1,21 @@
 -- The next item of a body, and what of it is shown.
 use Rattle.std.proofs.Common.{◌≡◌, ℕ, Bool, true, false, List, [], ◌∷◌, ◌++◌, Option, None, Some, Result, Ok, Err, refl, sym, ap, subst, ◌∙◌}
 use Rattle.sccs_history.specs.Numbers.{front_if}
-use Rattle.sccs_history.specs.Body.{HistoryLine, line_at, lines_behind, lines_of}
+use Rattle.sccs_history.specs.Body.{HistoryLine, line_at, lines_behind}
 use Rattle.sccs_history.specs.Select.{shows}
 use Rattle.sccs_history.specs.declared.headers.Item.{Item}
 use Rattle.sccs_history.specs.declared.headers.Item.TheVariants.{Text, Insert, Delete}
 use Rattle.sccs_history.specs.declared.headers.Item.TheVariants as kinds
 use Rattle.sccs_grammar.specs.declared.faults.FileFault.{FileFault}
 use Rattle.sccs_grammar.specs.declared.faults.FileFault.TheVariants as faults
-use Rattle.sccs_table.specs.declared.fronts.Front.{Front}
-use Rattle.sccs_history.specs.Applied.{live_serials}
 use Rattle.sccs_body.specs.Reader.{ItemPlace}
 use Rattle.sccs_body.specs.ItemsRead.{GoesOrStays, IsBehind}
-use Rattle.sccs_body.specs.BodyFile.{items_of}
 use Rattle.sccs_body.specs.ToCome.{ComesOrStays, ItemComes, ToCome}
 use Rattle.sccs_body.specs.ToCome as items
 use Rattle.sccs_versions.proofs.RunLaws.{onto_read}
 use Rattle.sccs_versions.specs.Regions.{Holds}
 use Rattle.sccs_versions.specs.declared.regions.Region.{Region}
-use Rattle.sccs_versions.specs.Coming.{Coming, GivesNextLine, IsBody, ShowsItem, shown}
+use Rattle.sccs_versions.specs.Coming.{Coming, GivesNextLine, ShowsItem, shown}
 use Rattle.sccs_versions.specs.Place.{VersionPlace}
 use Rattle.sccs_versions.specs.WasRead.{HasRead}
 use Rattle.sccs_versions.specs.declared.readers.Next.{Next}
@@ -158,15 +155,4 @@ read_still live r r2 mid before taken none set regions taken_none read_on h = re
   stood = h.stood;
   behind = read_on live before (subst (λ t. GoesOrStays live before mid t) none (taken_none live before h.behind));
   holds = subst (λ s. Holds s before r2.regions) (sym set) (subst (λ w. Holds r.set before w) (sym regions) h.holds);
-}
-
--- a reader that was made before the body of a told file
-pub body_comes : (file : List ℕ) (told : Option (List ℕ)) (front : Front) (r : VersionPlace) (list : List Item) → IsBody told front r.set file list → Holds r.set [] r.regions → ToCome file (live_serials front.header.records) [] (items_of file front) r.items → Coming file r (shown r.set (lines_of list))
-body_comes file told front r list is holds comes = record {
-  live = live_serials front.header.records;
-  before = [];
-  rest = list;
-  holds = holds;
-  comes = subst (λ found. ToCome file (live_serials front.header.records) [] found r.items) is.items_are comes;
-  lines_are = refl;
 }

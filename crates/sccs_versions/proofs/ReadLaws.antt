@@ -8,7 +8,6 @@ use Rattle.sccs_history.specs.Select.{shows}
 use Rattle.sccs_history.specs.declared.headers.Item.{Item}
 use Rattle.sccs_history.specs.declared.headers.Item.TheVariants.{Text, Insert, Delete}
 use Rattle.sccs_history.specs.declared.headers.Item.TheVariants as items
-use Rattle.sccs_tokens.specs.Written.{ended, bytes_of}
 use Rattle.sccs_grammar.specs.declared.faults.FileFault.{FileFault}
 use Rattle.sccs_body.specs.Reader.{ItemPlace}
 use Rattle.sccs_body.proofs.TextLaws.{some_bytes}
@@ -16,12 +15,12 @@ use Rattle.sccs_body.proofs.ComingLaws.{hand_long}
 use Rattle.sccs_body.specs.ItemsRead.{MovesToItem, IsBehind, texts_behind}
 use Rattle.sccs_versions.specs.Regions.{Holds}
 use Rattle.sccs_versions.specs.declared.regions.Region.{Region}
-use Rattle.sccs_versions.specs.Coming.{ShowsItem, shown, text_of_lines}
+use Rattle.sccs_versions.specs.Coming.{ShowsItem, shown}
 use Rattle.sccs_versions.specs.Place.{AreShown, VersionPlace, bytes_held}
-use Rattle.sccs_versions.specs.WasRead.{HasRead, ReadsAll, ReadsNext, ReadsOn, Stood, lines_before, shown_before, text_before}
+use Rattle.sccs_versions.specs.WasRead.{HasRead, ReadsAll, ReadsNext, ReadsOn, Stood, lines_before, shown_before}
 use Rattle.sccs_versions.specs.declared.readers.Next.{Next}
 use Rattle.sccs_versions.specs.declared.readers.Next.TheVariants.{Line, Hidden, End}
-use Rattle.sccs_versions.proofs.RunLaws.{Passed, holds_behind, kept_or_none, run_behind, run_inserted, run_lines, run_texts, text_append}
+use Rattle.sccs_versions.proofs.RunLaws.{Passed, holds_behind, kept_or_none, run_behind, run_inserted, run_lines, run_texts}
 use Rattle.sccs_versions.proofs.ItemLaws.{shown_one}
 
 -- ---- what is shown of lines, one behind others
@@ -183,12 +182,3 @@ read_then live r r2 regions before result same on next = then_read live r2 befor
     then_read live r before items (Err fault) is next = tt
 
 -- ---- texts
-
--- the text of what was shown is that of what was shown before, and these lines
-pub text_on : (live : List ℕ) (r : VersionPlace) (regions : List Region) (before : List Item) (texts : List (List ℕ)) → (on : ReadsOn live r regions before texts) → text_before r.set on.items ≡ text_before r.set before ++ bytes_of texts
-text_on live r regions before texts on =
-    ap text_of_lines on.whole ∙ (text_append (shown_before r.set before) on.first ∙ ap (λ more. text_before r.set before ++ more) (lines_text on.first ∙ ap bytes_of on.texts_are))
-  where
-    lines_text : (lines : List HistoryLine) → text_of_lines lines ≡ bytes_of (map (λ (line : HistoryLine). line.text) lines)
-    lines_text [] = refl
-    lines_text (line ∷ lines) = ap (λ more. ended line.text ++ more) (lines_text lines)

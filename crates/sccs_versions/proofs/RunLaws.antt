@@ -1,10 +1,10 @@
 -- Text lines that stand together.
-use Rattle.std.proofs.Common.{◌≡◌, ℕ, ◌⊎◌, Bool, true, false, List, [], ◌∷◌, ◌++◌, length, map, Result, Ok, Err, inl, inr, refl, sym, ap, subst, ◌∙◌, append_assoc}
+use Rattle.std.proofs.Common.{◌≡◌, ℕ, ◌⊎◌, Bool, true, false, List, [], ◌∷◌, ◌++◌, length, map, Result, Ok, Err, inl, inr, refl, sym, ap, subst, ◌∙◌}
 use Rattle.std.specs.List.{AllByRecursion}
 use Rattle.sccs_base.specs.Cut.{cut}
 use Rattle.sccs_history.specs.Numbers.{front_if}
 use Rattle.sccs_history.specs.Body.{HistoryLine, inserter, line_at, lines_behind}
-use Rattle.sccs_history.specs.Select.{select, shows}
+use Rattle.sccs_history.specs.Select.{shows}
 use Rattle.sccs_history.specs.declared.headers.Item.{Item}
 use Rattle.sccs_history.specs.declared.headers.Item.TheVariants.{Text}
 use Rattle.sccs_tokens.specs.Written.{ended, bytes_of}
@@ -142,10 +142,6 @@ none_shown r = record { may = nothing_may_pass r.items; kept = inr refl }
 
 -- ---- the lines at hand, before they are passed over
 
-pub text_append : (xs ys : List HistoryLine) → text_of_lines (xs ++ ys) ≡ text_of_lines xs ++ text_of_lines ys
-text_append [] ys = refl
-text_append (line ∷ xs) ys = ap (λ more. ended line.text ++ more) (text_append xs ys) ∙ sym (append_assoc (ended line.text) (text_of_lines xs) (text_of_lines ys))
-
 -- what a reader of items says of the lines at hand
 abbrev pub ComeAtHand : List ℕ → ItemPlace → List ℕ → Type 0
 ComeAtHand file r text = (live : List ℕ) (before : List Item) (found : Result (List Item) ℕ) → ToCome file live before found r → (rest : Result (List Item) ℕ) × (found ≡ onto (map Text (cut text).lines) rest)
@@ -165,11 +161,3 @@ unfolding cut
 none_first r lines = record { first = []; rest = lines; whole = refl; text_is = refl; lines_are = refl; inserted = λ n is. tt }
 
 -- ---- the text of all lines
-
-front_text : (shown_it : Bool) (line : HistoryLine) (lines : List HistoryLine) (texts : List (List ℕ)) → bytes_of texts ≡ text_of_lines lines → bytes_of (front_if shown_it line.text texts) ≡ text_of_lines (front_if shown_it line lines)
-front_text true line lines texts is = ap (λ more. ended line.text ++ more) is
-front_text false line lines texts is = is
-
-pub shown_text : (set : List ℕ) (lines : List HistoryLine) → bytes_of (select set lines) ≡ text_of_lines (shown set lines)
-shown_text set [] = refl
-shown_text set (line ∷ lines) = front_text (shows set line) line (shown set lines) (select set lines) (shown_text set lines)

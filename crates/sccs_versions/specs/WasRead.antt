@@ -8,7 +8,7 @@ use Rattle.sccs_grammar.specs.declared.faults.FileFault.{FileFault}
 use Rattle.sccs_body.specs.ItemsRead.{IsBehind}
 use Rattle.sccs_versions.specs.Regions.{Holds}
 use Rattle.sccs_versions.specs.declared.regions.Region.{Region}
-use Rattle.sccs_versions.specs.Coming.{shown, text_of_lines}
+use Rattle.sccs_versions.specs.Coming.{shown}
 use Rattle.sccs_versions.specs.Place.{IsInserter, VersionPlace}
 use Rattle.sccs_versions.specs.declared.readers.Next.{Next}
 use Rattle.sccs_versions.specs.declared.readers.Next.TheVariants as next
@@ -24,9 +24,6 @@ lines_before (End n ∷ before) = lines_before before
 -- those that a set shows, and their text
 abbrev pub shown_before : List ℕ → List Item → List HistoryLine
 shown_before set before = shown set (lines_before before)
-
-abbrev pub text_before : List ℕ → List Item → List ℕ
-text_before set before = text_of_lines (shown_before set before)
 
 -- each of them may stand where it does
 abbrev pub Stood : List ℕ → List Item → Type 0

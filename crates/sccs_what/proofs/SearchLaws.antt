@@ -1,7 +1,7 @@
 -- What the steps of a search give and owe, whatever bytes come behind a piece.
 use Rattle.std.proofs.Common.{◌≡◌, ◌≢◌, ℕ, ◌+◌, ◌-◌, ◌<◌, ◌≤◌, Bool, true, false, cond, List, [], ◌∷◌, ◌++◌, length, take, drop, flat_map, get_or, length-take, Option, Result, Ok, Err, refl, sym, ap, subst, ◌∙◌, arith, append_assoc, append-nil, length-drop}
 use Rattle.std.specs.Prelude.{IsErrAnd, not}
-use Rattle.std.proofs.lemmas.Bool.{ltb-false, ltb-true}
+use Rattle.std.proofs.lemmas.Bool.{ltb-true}
 use Rattle.std.proofs.lemmas.List.{drop-drop}
 use Rattle.std.proofs.Math.Seq.{take-length}
 use Rattle.sccs_base.specs.Constants.{lf}
@@ -215,13 +215,3 @@ giving_cut first bytes s held held2 a b r fault giving is cut none = subst (λ x
 
 pub less_giving : (s : Search) (bytes : List ℕ) (used : ℕ) → s ≡ Giving → used ≤ length bytes → work_left Found (drop used bytes) < work_left s bytes
 less_giving s bytes used giving within = subst (λ x. work_left Found (drop used bytes) < work_left x bytes) (sym giving) (omega (arith, length-drop used bytes))
-
-pub four_left : (first : Bool) (s : Search) (bytes : List ℕ) → search_is_over first s bytes ≡ false → s ≢ Giving → 4 ≤ length bytes
-four_left first Unfound bytes seeks other = ltb-false (length bytes) 4 seeks
-four_left first Giving bytes seeks other = absurd (other refl)
-four_left true Found bytes seeks other = absurd (cc)
-four_left false Found bytes seeks other = ltb-false (length bytes) 4 seeks
-
-pub some_left : (first : Bool) (s : Search) (bytes : List ℕ) → s ≡ Giving → search_is_over first s bytes ≡ false → 0 < length bytes
-some_left first s [] giving over = absurd (let over2 : search_is_over first Giving [] ≡ false = subst (λ x. search_is_over first x [] ≡ false) giving over in cc)
-some_left first s (b ∷ bytes) giving over = omega arith

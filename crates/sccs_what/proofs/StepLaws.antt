@@ -1,6 +1,6 @@
 -- How the call of what ends.
 use Rattle.std.proofs.Common.{◌≡◌, ℕ, ◌<◌, ◌≤◌, Bool, cond, List, [], length, Option, None, Some, Result, Ok, Err, inl, refl, sym, ap, subst, append-nil, option_map}
-use Rattle.std.proofs.lemmas.Bool.{le-ltb, lt-ltb}
+use Rattle.std.proofs.lemmas.Bool.{le-ltb}
 use Rattle.sccs_base.specs.Constants.{file_limit}
 use Rattle.sccs_base.specs.Stream.{GivesOk, GivesSome}
 use Rattle.sccs_base.proofs.Gifts.{gives_none, some_none}
@@ -8,11 +8,9 @@ use Rattle.sccs_disk.specs.Files.{Content, View}
 use Rattle.sccs_disk.specs.Reads.{Measures}
 use Rattle.sccs_name_files.specs.StepFiles.{is_working, Moves}
 use Rattle.sccs_name_files.specs.WholeFiles.{file_bytes}
-use Rattle.sccs_sid.specs.declared.refusals.Refusal.{Refusal}
 use Rattle.sccs_sid.specs.declared.refusals.Refusal.TheVariants as refusals
 use Rattle.sccs_sid.specs.declared.refusals.StepFault.{StepFault}
 use Rattle.sccs_sid.specs.declared.refusals.StepFault.TheVariants.{Refused, Memory, ReadFault, WriteFault, DiskFault}
-use Rattle.sccs_steps.specs.Actions.{RefusesWithin}
 use Rattle.sccs_steps.specs.Calls.{Meets, world}
 use Rattle.sccs_steps.proofs.ReadingSteps.{broken, kept, same_cleared}
 use Rattle.sccs_what.specs.Texts.{what_text}
@@ -51,28 +49,3 @@ prints_file first n size r (Some v) told2 out out2 same measures fits prints = �
         let long : size ≡ length c.bytes = cc in
         subst (λ (t : Bool). Meets found_status r n (cond t (Err refusals.TooLong) (Ok (finds_texts first n c.bytes))) (world (Some v) out err) (world told2 out2 err))
         (sym (le-ltb file_limit (length c.bytes) (subst (λ k. k ≤ file_limit) long fits))) (printed first n c.bytes v told2 r out out2 err same (prints c.bytes refl long))
-
-pub too_long : (first : Bool) (n : List ℕ) (size : ℕ) (told told2 : Option View) (out : Option (List ℕ)) → told2 ≡ told → Measures told n (Some size) → file_limit < size → MeetsWhat first n (Err (Refused refusals.TooLong)) told told2 out out
-too_long first n size None told2 out same measures long = tt
-too_long first n size (Some v) told2 out same measures long = λ err. (by (v n) measures, kept v told2 n None [] out out err same (some_none out []))
-  where
-    by : (o : Option Content) → Some size ≡ option_map (λ (c : Content). length c.bytes) o → what_step first n o ≡ Err refusals.TooLong
-    by None measures = absurd (cc)
-    by (Some c) measures =
-        let is : size ≡ length c.bytes = cc in
-        ap (λ (t : Bool). cond t (Err refusals.TooLong) (Ok (finds_texts first n c.bytes))) (lt-ltb file_limit (length c.bytes) (subst (λ k. file_limit < k) is long))
-
-pub missing : (first : Bool) (n : List ℕ) (told told2 : Option View) (out : Option (List ℕ)) → told2 ≡ told → Measures told n None → MeetsWhat first n (Err (Refused refusals.Missing)) told told2 out out
-missing first n None told2 out same measures = tt
-missing first n (Some v) told2 out same measures = λ err. (by (v n) measures, kept v told2 n None [] out out err same (some_none out []))
-  where
-    by : (o : Option Content) → None ≡ option_map (λ (c : Content). length c.bytes) o → what_step first n o ≡ Err refusals.Missing
-    by None measures = refl
-    by (Some c) measures = absurd (cc)
-
-pub disk_failed : (first : Bool) (n : List ℕ) (told told2 : Option View) (out : Option (List ℕ)) → told2 ≡ told → MeetsWhat first n (Err DiskFault) told told2 out out
-disk_failed first n None told2 out same = tt
-disk_failed first n (Some v) told2 out same = λ err. broken v told2 n (what_step first n (v n)) out out err same (some_none out _)
-
-pub never_refused : (checks : List ℕ) (r : Result Bool StepFault) → ((refusal : Refusal) → r ≡ Err (Refused refusal) → ⊥) → RefusesWithin checks r
-never_refused checks r never refusal is = absurd (never refusal is)

@@ -83,9 +83,6 @@ table_of [] rest = refl
 table_of (r ∷ records) rest =
     entry_of r (table_lines records rest) ∙ (ap (λ bytes. entry_bytes r ++ bytes) (table_of records rest) ∙ sym (append_assoc (entry_bytes r) (table_bytes records) (bytes_of rest)))
 
-plain_lines : (lines : List (List ℕ)) (rest : List (List ℕ)) → bytes_of (lines ++ rest) ≡ flat_map ended lines ++ bytes_of rest
-plain_lines lines rest = lines_both lines rest
-
 pub header_of : (h : Header) (rest : List (List ℕ)) → bytes_of (header_lines h rest) ≡ table_bytes h.records ++ (users_bytes h.users ++ (flags_bytes h.flags ++ (description_bytes h.description ++ bytes_of rest)))
 header_of h rest =
     table_of h.records _
