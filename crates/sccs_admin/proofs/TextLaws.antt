@@ -1,5 +1,6 @@
 -- The lines of a text, counted, and the LF that it lacks.
-use Rattle.std.proofs.Common.{◌≡◌, ℕ, suc, ◌+◌, ◌-◌, ◌<◌, ◌≤◌, ◌==◌, Bool, true, false, cond, List, [], ◌∷◌, ◌++◌, length, get_or, refl, sym, ap, ◌∙◌, arith, length-append}
+use Rattle.std.proofs.Common.{◌≡◌, ℕ, suc, ◌+◌, ◌-◌, ◌<◌, ◌≤◌, ◌==◌, Bool, true, false, cond, List, [], ◌∷◌, ◌++◌}
+use Rattle.std.proofs.Common.{length, get_or, refl, sym, ap, ◌∙◌, arith, length-append}
 use Rattle.std.proofs.lemmas.Bool.{ne_eqb}
 use Rattle.sccs_table.proofs.RunLaws.{cut_joined}
 use Rattle.sccs_base.specs.Cut.{cut, closed, text_of, without_lf}
@@ -39,12 +40,14 @@ unfolding lacking
 lacking_none [] none = refl
 lacking_none (b ∷ bytes) none = absurd (filled (length bytes) none)
 
-lacking_by : (bytes : List ℕ) → 0 < length bytes → cond (get_or bytes (length bytes - 1) 0 == 10) [] (10 ∷ []) ≡ lacking bytes
+lacking_by : (bytes : List ℕ) → 0 < length bytes → cond (get_or bytes (length bytes - 1) 0 == 10) [] (10 ∷ [])
+    ≡ lacking bytes
 unfolding lacking
 lacking_by [] some = absurd (omega (arith, some))
 lacking_by (b ∷ []) some = refl
 lacking_by (b ∷ c ∷ bytes) some =
-    ap (λ n. cond (get_or (b ∷ c ∷ bytes) n 0 == 10) [] (10 ∷ [])) (at_last (length bytes)) ∙ lacking_by (c ∷ bytes) (omega arith)
+    ap (λ n. cond (get_or (b ∷ c ∷ bytes) n 0 == 10) [] (10 ∷ [])) (at_last (length bytes)) ∙ lacking_by (c ∷ bytes)
+    (omega arith)
   where
     at_last : (n : ℕ) → suc (suc n) - 1 ≡ suc (suc n - 1)
     at_last n = omega arith
@@ -53,13 +56,16 @@ some_bytes : (bytes : List ℕ) → false ≡ (length bytes == 0) → 0 < length
 some_bytes [] is = absurd (cc)
 some_bytes (b ∷ bytes) is = omega arith
 
-pub lacking_lf : (bytes : List ℕ) → false ≡ (length bytes == 0) → get_or bytes (length bytes - 1) 0 ≡ 10 → [] ≡ lacking bytes
+pub lacking_lf : (bytes : List ℕ) → false ≡ (length bytes == 0) → get_or bytes (length bytes - 1) 0 ≡ 10
+    → [] ≡ lacking bytes
 lacking_lf bytes some is =
     ap (λ b. cond (b == 10) [] (10 ∷ [])) (sym is) ∙ lacking_by bytes (some_bytes bytes some)
 
-pub lacking_other : (bytes : List ℕ) → false ≡ (length bytes == 0) → (get_or bytes (length bytes - 1) 0 ≡ 10 → ⊥) → 10 ∷ [] ≡ lacking bytes
+pub lacking_other : (bytes : List ℕ) → false ≡ (length bytes == 0) → (get_or bytes (length bytes - 1) 0 ≡ 10 → ⊥)
+    → 10 ∷ [] ≡ lacking bytes
 lacking_other bytes some other =
-    ap (λ t. cond t [] (10 ∷ [])) (sym (ne_eqb (get_or bytes (length bytes - 1) 0) 10 other)) ∙ lacking_by bytes (some_bytes bytes some)
+    ap (λ t. cond t [] (10 ∷ [])) (sym (ne_eqb (get_or bytes (length bytes - 1) 0) 10 other))
+    ∙ lacking_by bytes (some_bytes bytes some)
 
 -- ---- how many lines there are at most
 
@@ -67,7 +73,14 @@ lines_bytes : (lines : List (List ℕ)) (tail : List ℕ) → length lines + len
 lines_bytes [] tail = omega arith
 lines_bytes (line ∷ lines) tail =
     let rest = lines_bytes lines tail in
-    omega (arith, rest, length-append (ended line ++ bytes_of lines) tail, length-append (ended line) (bytes_of lines), length-append line (10 ∷ []), length-append (bytes_of lines) tail)
+    omega (
+      arith,
+      rest,
+      length-append (ended line ++ bytes_of lines) tail,
+      length-append (ended line) (bytes_of lines),
+      length-append line (10 ∷ []),
+      length-append (bytes_of lines) tail,
+    )
 
 closed_most : (lines : List (List ℕ)) (tail : List ℕ) → length (closed lines tail) ≤ length lines + length tail
 closed_most lines [] = omega arith

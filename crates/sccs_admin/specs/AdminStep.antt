@@ -1,5 +1,7 @@
--- What admin does with a name that is to become an s-file: POSIX, Shell and Utilities, admin, -n and -i, with -a, -f, -m, -r, -t and -y.
-use Rattle.std.specs.Prelude.{ℕ, true, false, List, [], ◌∷◌, ◌++◌, drop, length, nat_le, unwrap_or, Option, Some, is_none, None, Result, Ok}
+-- What admin does with a name that is to become an s-file: POSIX, Shell and Utilities, admin, -n and -i, with -a, -f,
+-- -m, -r, -t and -y.
+use Rattle.std.specs.Prelude.{ℕ, true, false, List, [], ◌∷◌, ◌++◌, drop, length, nat_le, unwrap_or, Option, Some}
+use Rattle.std.specs.Prelude.{is_none, None, Result, Ok}
 use Rattle.sccs_base.specs.Constants.{file_limit}
 use Rattle.sccs_base.specs.Cut.{text_of}
 use Rattle.sccs_sid.specs.Moment.{IsMoment}
@@ -31,13 +33,20 @@ admin_checks =
 
 -- the new s-file, and all else as it was
 abbrev pub makes : Content → Files → Outcome
-makes content f = Ok (record { new = Some (record { s = Some content; p = f.p; z = None; g = f.g; l = f.l }); text = []; out = []; err = []; status = 0 })
+makes content f = Ok (record {
+  new = Some (record { s = Some content; p = f.p; z = None; g = f.g; l = f.l });
+  text = [];
+  out = [];
+  err = [];
+  status = 0;
+})
 
 -- the files that are named: that of -i, and that of -t
 abbrev pub named_in : AdminWords → List (List ℕ)
 named_in words = named_by words.text ++ named_by words.description
 
--- the text of the new file and that of its description; or the first check that fails: a named file isn't there, the s-file
+-- the text of the new file and that of its description; or the first check that fails: a named file isn't there, the
+-- s-file
 -- is, or a text is too long
 unfoldable pub found_texts : AdminWords → List ℕ → List (Option Content) → Option Content → Result NewTexts Refusal
 found_texts words input named s = do
@@ -56,7 +65,15 @@ admin_outcome words stamp n input named f = do
   makes (new_content words stamp rules (text_of texts.text)) f
 
 abbrev pub admin_change : AdminWords → Stamp → Changing
-admin_change words stamp = record { outcome = admin_outcome words stamp; named = λ n. named_in words; takes = takes_input words.text; silent = true; early = false; could = quiet_checks admin_checks }
+admin_change words stamp = record {
+  outcome = admin_outcome words stamp;
+  named = λ n. named_in words;
+  takes =
+      takes_input words.text;
+  silent = true;
+  early = false;
+  could = quiet_checks admin_checks;
+}
 
 -- The release and the moment are valid ones.
 pub record AreAdminValues (words : AdminWords) (stamp : Stamp) : Type 0 where

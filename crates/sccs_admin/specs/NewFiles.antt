@@ -49,10 +49,16 @@ first_record words stamp count = record {
 
 -- the first delta, and neither user, flag nor description
 abbrev pub first_header : AdminWords → Stamp → ℕ → Header
-first_header words stamp count = record { records = first_record words stamp count ∷ []; users = []; flags = []; description = [] }
+first_header words stamp count = record {
+  records = first_record words stamp count ∷ [];
+  users = [];
+  flags = [];
+  description = [];
+}
 
 abbrev pub new_header : AdminWords → Stamp → NewRules → Header
-new_header words stamp rules = with_rules (first_header words stamp rules.count) (changed_users [] words.add words.erase) rules.flags rules.description
+new_header words stamp rules = with_rules (first_header words stamp rules.count)
+    (changed_users [] words.add words.erase) rules.flags rules.description
 
 -- the lines, inserted by the first delta
 abbrev pub new_items : List (List ℕ) → List Item

@@ -1,5 +1,6 @@
 -- What the parts of admin on a new file answer, where a view and the input are told.
-use Rattle.std.specs.Prelude.{◌≡◌, ◌<◌, ◌≤◌, ℕ, true, List, [], length, map, Option, Some, IfSome, IsSome, None, Result, Ok, Err}
+use Rattle.std.specs.Prelude.{◌≡◌, ◌<◌, ◌≤◌, ℕ, true, List, [], length, map, Option, Some, IfSome, IsSome, None, Result}
+use Rattle.std.specs.Prelude.{Ok, Err}
 use Rattle.std.specs.Str.{bytes_eq}
 use Rattle.sccs_base.specs.Constants.{file_limit}
 use Rattle.sccs_base.specs.Cut.{text_of}
@@ -90,7 +91,8 @@ AnswersTexts found (Err (Refused refusal)) = found ≡ Err refusal
 AnswersTexts found (Err fault) = Unit {0}
 
 abbrev pub FindsTexts : AdminWords → Result NewTexts StepFault → List ℕ → Option (List ℕ) → Option View → Type 0
-FindsTexts words r n left told = IfSome told (λ v. (i : List ℕ) → IsHeard (takes_input words.text) left i → AnswersTexts (found_texts words i (map (unlocked n v) (named_in words)) (v n)) r)
+FindsTexts words r n left told = IfSome told (λ v. (i : List ℕ) → IsHeard (takes_input words.text) left i
+    → AnswersTexts (found_texts words i (map (unlocked n v) (named_in words)) (v n)) r)
 
 -- Neither text is longer than a file may be.
 pub record AreShort (texts : NewTexts) : Type 0 where
@@ -113,8 +115,10 @@ pub record IsNewSfile (p : Prepared) : Type 0 where
   pub message : p.message ≡ []
 
 -- the x-file is that of a new file; or a check on its texts and words fails; or at most the x-file has changed
-abbrev pub WritesTexts : Result Prepared StepFault → AdminWords → Stamp → NewTexts → List ℕ → Option View → Option View → Type 0
+abbrev pub WritesTexts : Result Prepared StepFault → AdminWords → Stamp → NewTexts → List ℕ → Option View → Option View
+    → Type 0
 WritesTexts (Ok p) words stamp texts n old new =
-    IsNewSfile p × ((rules : NewRules) × (new_rules words texts ≡ Ok rules) × Becomes (λ v. put v (x_file n) (Some (new_content words stamp rules (text_of texts.text)))) old new)
+    IsNewSfile p × ((rules : NewRules) × (new_rules words texts ≡ Ok rules)
+    × Becomes (λ v. put v (x_file n) (Some (new_content words stamp rules (text_of texts.text)))) old new)
 WritesTexts (Err (Refused refusal)) words stamp texts n old new = (new_rules words texts ≡ Err refusal) × (new ≡ old)
 WritesTexts (Err fault) words stamp texts n old new = Moves (bytes_eq (x_file n)) (λ v. v) old new

@@ -1,11 +1,14 @@
--- Description and flags as admin's words say them, and the checks on a new file: POSIX, admin -t, -f, -d, -m; sccsfile(4).
-use Rattle.std.specs.Prelude.{ℕ, Bool, true, false, not, ◌&&◌, ◌||◌, List, [], ◌∷◌, option_map, unwrap_or, Result, Ok, Err}
+-- Description and flags as admin's words say them, and the checks on a new file: POSIX, admin -t, -f, -d, -m;
+-- sccsfile(4).
+use Rattle.std.specs.Prelude.{ℕ, Bool, true, false, not, ◌&&◌, ◌||◌, List, [], ◌∷◌, option_map, unwrap_or, Result, Ok}
+use Rattle.std.specs.Prelude.{Err}
 use Rattle.std.specs.List.{list_any}
 use Rattle.sccs_base.specs.Cut.{text_of}
 use Rattle.sccs_sid.specs.Reading.{◌>>=◌, is_empty}
 use Rattle.sccs_sid.specs.Refusal.{number_of}
 use Rattle.sccs_sid.specs.declared.refusals.Refusal.{Refusal}
-use Rattle.sccs_sid.specs.declared.refusals.Refusal.TheVariants.{BadText, FlagBad, MrNeeded, MrNotAllowed, NoKeywords, Unsupported}
+use Rattle.sccs_sid.specs.declared.refusals.Refusal.TheVariants.{BadText, FlagBad, MrNeeded, MrNotAllowed, NoKeywords}
+use Rattle.sccs_sid.specs.declared.refusals.Refusal.TheVariants.{Unsupported}
 use Rattle.sccs_history.specs.FlagText.{flag_i, flag_v}
 use Rattle.sccs_history.specs.declared.headers.Flag.{Flag}
 use Rattle.sccs_flags.specs.FlagValues.{flag_of, has_flag}
@@ -49,7 +52,8 @@ is_given given = true
 
 -- with -i, where the flag i is set, some line has a keyword
 abbrev pub has_wanted_keyword : AdminWords → List (List ℕ) → Bool
-has_wanted_keyword words lines = not (is_given words.text && sets_flag words.set flag_i) || list_any text_has_keyword lines
+has_wanted_keyword words lines = not (is_given words.text && sets_flag words.set flag_i) || list_any text_has_keyword
+    lines
 
 -- the flag has a text
 abbrev pub has_text : List Flag → ℕ → Bool

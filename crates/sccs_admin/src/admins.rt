@@ -26,7 +26,8 @@ use std::alloc::Global;
 
 /// admin on a name that is to become an s-file: POSIX, Shell and Utilities, admin, -n and -i, with -a, -f, -m, -r, -t
 /// and -y. It refuses a name that is locked, a named file that isn't there, an s-file that is, a text of more than
-/// 1,073,741,824 bytes, one of which a line begins with SOH, a text without keywords where the flag i wants one, flags that
+/// 1,073,741,824 bytes, one of which a line begins with SOH, a text without keywords where the flag i wants one, flags
+/// that
 /// are none, and MRs that aren't as the flag v asks, in this order.
 #[derive(Drop)]
 pub struct Admin<'a> {
@@ -60,7 +61,8 @@ fn write_texts<D: Disk>(
     requires sfile { IsSFileName name.now }
     requires valid { AreAdminValues words.now stamp.now }
     requires bound { AreShort texts.now }
-    ensures writes { WritesTexts result words.now stamp.now texts.now name.now (seen (D.told disk.old)) (seen (D.told disk.new)) }
+    ensures writes { WritesTexts result words.now stamp.now texts.now name.now (seen (D.told disk.old))
+        (seen (D.told disk.new)) }
     ensures touches { TouchesOnly (bytes_eq (x_file name.now)) (D.told disk.old) (D.told disk.new) }
     ensures firm { IfOk result (λ p. IsFirmPrepared name.now p (D.told disk.old) (D.told disk.new)) }
     ensures checks { RefusesWithin admin_checks result }

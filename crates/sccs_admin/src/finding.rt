@@ -1,4 +1,5 @@
-ghost use Rattle.std.specs.Prelude.{◌≡◌, ◌≢◌, ◌≤◌, ℕ, List, Some, length, Err, None, false, IfOk, IfSome, IsErrOf, OnOk};
+ghost use Rattle.std.specs.Prelude.{◌≡◌, ◌≢◌, ◌≤◌, ℕ, List, Some, length, Err, None, false, IfOk, IfSome, IsErrOf};
+ghost use Rattle.std.specs.Prelude.{OnOk};
 ghost use Rattle.std.specs.Str.{bytes_eq};
 ghost use Rattle.sccs_base.specs.Constants.{file_limit};
 ghost use Rattle.sccs_base.specs.Name.{IsSFileName, z_file};
@@ -9,7 +10,8 @@ ghost use Rattle.sccs_steps.specs.Actions.{RefusesWithin};
 ghost use Rattle.sccs_steps.specs.Causes.{Ignores};
 ghost use Rattle.sccs_changes.specs.PFiles.{OnlyReads};
 ghost use Rattle.sccs_admin.specs.AdminStep.{admin_checks};
-ghost use Rattle.sccs_admin.specs.Parts.{AreShort, FindsNamed, FindsTexts, Hears, IsFresh, IsShort, ReadsNamed, TakesText, whole_text};
+ghost use Rattle.sccs_admin.specs.Parts.{AreShort, FindsNamed, FindsTexts, Hears, IsFresh, IsShort, ReadsNamed};
+ghost use Rattle.sccs_admin.specs.Parts.{TakesText, whole_text};
 ghost use Rattle.sccs_admin.specs.Texts.{takes_input};
 ghost use Rattle.sccs_words.specs.declared.commands.Given.TheVariants as given;
 ghost use Rattle.sccs_disk.specs.Causes.{DiskCauses};
@@ -166,7 +168,8 @@ fn taken_text<I: Source>(
     ensures takes { TakesText result given found (I.left input.old) }
     ensures bound { IfOk result (λ text. length text ≤ file_limit) }
     ensures ignores { takes_input given ≡ false
-        → Ignores fault.ReadFault (I.left input.old) (I.left input.new) (I.faults input.old) (I.faults input.new) result }
+        → Ignores fault.ReadFault (I.left input.old) (I.left input.new) (I.faults input.old) (I.faults input.new)
+        result }
     ensures checks { RefusesWithin admin_checks result }
     ensures heard { I.faults input.old ≤ I.faults input.new }
     ensures read { result ≡ Err fault.ReadFault → Rose (I.faults input.old) (I.faults input.new) }
@@ -180,7 +183,8 @@ fn taken_text<I: Source>(
     }
 }
 
-/// The texts of a new file, where its s-file isn't there yet. These checks are made in their order: a file that is named is
+/// The texts of a new file, where its s-file isn't there yet. These checks are made in their order: a file that is
+/// named is
 /// there, the s-file isn't, no text is longer than 1,073,741,824 bytes. The input is read behind the second.
 pub fn find_texts<I: Source, D: Disk>(
     alloc: Global,
@@ -196,7 +200,8 @@ pub fn find_texts<I: Source, D: Disk>(
     ensures checks { RefusesWithin admin_checks result }
     ensures same { D.told disk.new ≡ D.told disk.old }
     ensures ignores { takes_input words.now.text ≡ false
-        → Ignores fault.ReadFault (I.left input.old) (I.left input.new) (I.faults input.old) (I.faults input.new) result }
+        → Ignores fault.ReadFault (I.left input.old) (I.left input.new) (I.faults input.old) (I.faults input.new)
+        result }
     ensures heard { I.faults input.old ≤ I.faults input.new }
     ensures later { D.faults disk.old ≤ D.faults disk.new }
     ensures read { result ≡ Err fault.ReadFault → Rose (I.faults input.old) (I.faults input.new) }

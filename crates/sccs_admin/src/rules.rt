@@ -8,7 +8,9 @@ ghost use Rattle.sccs_rules.specs.Flags.{changed_flags};
 ghost use Rattle.sccs_changes.specs.PFiles.{Answers, PassesCheck};
 ghost use Rattle.sccs_admin.specs.AdminStep.{admin_checks};
 ghost use Rattle.sccs_admin.specs.Parts.{AreRules, AreShort};
-ghost use Rattle.sccs_admin.specs.Rules.{bare_lines, described, text_has_keyword, has_text, has_wanted_keyword, is_given, mrs_fit, new_description, new_flags, new_rules, or_bad_flag, rule_checks};
+ghost use Rattle.sccs_admin.specs.Rules.{bare_lines, described, text_has_keyword, has_text, has_wanted_keyword};
+ghost use Rattle.sccs_admin.specs.Rules.{is_given, mrs_fit, new_description, new_flags, new_rules, or_bad_flag};
+ghost use Rattle.sccs_admin.specs.Rules.{rule_checks};
 ghost use Rattle.sccs_admin.specs.Texts.{count_lines, or_bad_text};
 
 use crate::finding::NewTexts;
@@ -115,7 +117,8 @@ pub fn has_text(flags: &[Flag], letter: u8) -> bool
     }
 }
 
-// Whether MRs are as the flag v asks. MrNeeded comes where it is set and none is given, MrNotAllowed where it isn't and some
+// Whether MRs are as the flag v asks. MrNeeded comes where it is set and none is given, MrNotAllowed where it isn't and
+// some
 // are, Unsupported where it has a text, which would name a program, and some are given. sccsfile(4), "Flags".
 #[tactic(auto, unfolding(crate::specs::Rules::mrs_fit))]
 fn check_mrs(flags: &[Flag], mrs: &Words) -> Result<(), StepFault>
@@ -166,7 +169,8 @@ fn new_description(alloc: Global, words: &AdminWords, texts: &NewTexts) -> Resul
     Ok(description)
 }
 
-/// What a new file is made with. These checks are made in their order: no line of the text and of the description begins with
+/// What a new file is made with. These checks are made in their order: no line of the text and of the description
+/// begins with
 /// SOH, the text has a keyword where the flag i wants one, the flags are such, the MRs are as the flag v asks.
 pub fn new_rules(alloc: Global, words: &AdminWords, texts: &NewTexts) -> Result<NewRules, StepFault>
     requires { AreShort texts.now }

@@ -23,22 +23,29 @@ use Rattle.sccs_alter.proofs.TextLaws.{given_are_lines}
 abbrev by_delta : CdcWords → Stamp → Header → Result Record Refusal → Result Header Refusal
 by_delta words stamp header found = found >>= λ delta. Ok (with_changes (text_changes words) stamp delta.serial header)
 
-pub header_is : (words : CdcWords) (stamp : Stamp) (header : Header) → changed_header words stamp header ≡ (changeable words stamp header >>= λ delta. Ok (with_changes (text_changes words) stamp delta.serial header))
+pub header_is : (words : CdcWords) (stamp : Stamp) (header : Header) → changed_header words stamp header
+    ≡ (changeable words stamp header >>= λ delta. Ok (with_changes (text_changes words) stamp delta.serial header))
 unfolding changed_header
 header_is words stamp header = refl
 
-pub not_changed : (words : CdcWords) (stamp : Stamp) (header : Header) (fault : StepFault) → FindsChangeable words stamp header (Err fault) → Answers {A = Header} (changed_header words stamp header) (Err fault)
-not_changed words stamp header (Refused refusal) finds = header_is words stamp header ∙ ap (by_delta words stamp header) finds
+pub not_changed : (words : CdcWords) (stamp : Stamp) (header : Header) (fault : StepFault)
+    → FindsChangeable words stamp header (Err fault) → Answers {A = Header} (changed_header words stamp header)
+    (Err fault)
+not_changed words stamp header (Refused refusal) finds = header_is words stamp header
+    ∙ ap (by_delta words stamp header) finds
 not_changed words stamp header Memory finds = absurd finds
 not_changed words stamp header ReadFault finds = finds
 not_changed words stamp header WriteFault finds = finds
 not_changed words stamp header DiskFault finds = absurd finds
 
-pub changed_is : (words : CdcWords) (stamp : Stamp) (header new : Header) (serial : ℕ) (changes : TextChanges) → FindsChangeable words stamp header (Ok serial) → changes ≡ text_changes words → new ≡ with_changes changes stamp serial header → changed_header words stamp header ≡ Ok new
+pub changed_is : (words : CdcWords) (stamp : Stamp) (header new : Header) (serial : ℕ) (changes : TextChanges)
+    → FindsChangeable words stamp header (Ok serial) → changes ≡ text_changes words
+    → new ≡ with_changes changes stamp serial header → changed_header words stamp header ≡ Ok new
 changed_is words stamp header new serial changes finds are made =
     header_is words stamp header
     ∙ (ap (by_delta words stamp header) finds.1
-    ∙ ap (λ (h : Header). Ok h) (ap (λ m. with_changes (text_changes words) stamp m header) finds.2 ∙ (ap (λ c. with_changes c stamp serial header) (sym are) ∙ sym made)))
+    ∙ ap (λ (h : Header). Ok h) (ap (λ m. with_changes (text_changes words) stamp m header) finds.2
+    ∙ (ap (λ c. with_changes c stamp serial header) (sym are) ∙ sym made)))
 
 same_header : (a b : Header) → (let r : Result Header Refusal = Ok a in r) ≡ Ok b → b ≡ a
 same_header a b is = cc
@@ -49,24 +56,38 @@ pub record IsMade (words : CdcWords) (stamp : Stamp) (header new : Header) : Typ
   pub meant : changeable words stamp header ≡ Ok delta
   pub is : new ≡ with_changes (text_changes words) stamp delta.serial header
 
-pub made_of : (words : CdcWords) (stamp : Stamp) (header new : Header) → changed_header words stamp header ≡ Ok new → IsMade words stamp header new
+pub made_of : (words : CdcWords) (stamp : Stamp) (header new : Header) → changed_header words stamp header ≡ Ok new
+    → IsMade words stamp header new
 made_of words stamp header new is =
-    let found = passed (changeable words stamp header) (λ delta. Ok (with_changes (text_changes words) stamp delta.serial header)) new (sym (header_is words stamp header) ∙ is) in
-    record { delta = found.0; meant = found.1; is = same_header (with_changes (text_changes words) stamp found.0.serial header) new found.2 }
+    let found = passed (changeable words stamp header)
+    (λ delta. Ok (with_changes (text_changes words) stamp delta.serial header)) new
+    (sym (header_is words stamp header) ∙ is) in
+    record {
+      delta = found.0;
+      meant = found.1;
+      is =
+          same_header (with_changes (text_changes words) stamp found.0.serial header) new found.2;
+    }
 
-pub new_rules : (words : CdcWords) (stamp : Stamp) (header new : Header) → IsHeader header → changed_header words stamp header ≡ Ok new → IsHeader new
+pub new_rules : (words : CdcWords) (stamp : Stamp) (header new : Header) → IsHeader header
+    → changed_header words stamp header ≡ Ok new → IsHeader new
 new_rules words stamp header new rules is =
-    let made = made_of words stamp header new is in subst IsHeader (sym made.is) (header_changed (text_changes words) stamp made.delta.serial header rules)
+    let made = made_of words stamp header new is in subst IsHeader (sym made.is)
+    (header_changed (text_changes words) stamp made.delta.serial header rules)
 
-pub new_spelled : (words : CdcWords) (stamp : Stamp) (header new : Header) → HasLines words stamp → IsSpelled header → changed_header words stamp header ≡ Ok new → IsSpelled new
+pub new_spelled : (words : CdcWords) (stamp : Stamp) (header new : Header) → HasLines words stamp → IsSpelled header
+    → changed_header words stamp header ≡ Ok new → IsSpelled new
 new_spelled words stamp header new lines spelled is =
     let made = made_of words stamp header new is in
-    subst IsSpelled (sym made.is) (spelled_changed (text_changes words) stamp made.delta.serial header lines.mrs (given_are_lines words.comment lines.comment) lines.login spelled)
+    subst IsSpelled (sym made.is) (spelled_changed (text_changes words) stamp made.delta.serial header lines.mrs
+    (given_are_lines words.comment lines.comment) lines.login spelled)
 
-pub new_same : (words : CdcWords) (stamp : Stamp) (header new : Header) → changed_header words stamp header ≡ Ok new → AreSameDeltas new.records header.records
+pub new_same : (words : CdcWords) (stamp : Stamp) (header new : Header) → changed_header words stamp header ≡ Ok new
+    → AreSameDeltas new.records header.records
 new_same words stamp header new is =
     let made = made_of words stamp header new is in
-    subst (λ (h : Header). AreSameDeltas h.records header.records) (sym made.is) (changes_same (text_changes words) stamp made.delta.serial header.records)
+    subst (λ (h : Header). AreSameDeltas h.records header.records) (sym made.is)
+    (changes_same (text_changes words) stamp made.delta.serial header.records)
 
 -- what is so anyway is so where something is prepared
 pub lines_of_made : {P : Type 0} (r : Result Prepared StepFault) → P → IfOk r (λ p. P)

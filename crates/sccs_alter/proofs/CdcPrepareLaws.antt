@@ -1,5 +1,6 @@
 -- What cdc prepares, from its two parts.
-use Rattle.std.proofs.Common.{◌≡◌, ℕ, false, List, [], Option, None, Some, IfOk, IfSome, Result, Ok, Err, refl, sym, ap, subst, ◌∙◌}
+use Rattle.std.proofs.Common.{◌≡◌, ℕ, false, List, [], Option, None, Some, IfOk, IfSome, Result, Ok, Err, refl, sym, ap}
+use Rattle.std.proofs.Common.{subst, ◌∙◌}
 use Rattle.std.specs.Str.{bytes_eq}
 use Rattle.sccs_base.specs.Name.{IsSFileName, x_file}
 use Rattle.sccs_base.proofs.Gifts.{gives_none}
@@ -53,21 +54,28 @@ abbrev from_header : List Item → Files → Result Header Refusal → Outcome
 from_header items f made = made >>= λ header. makes (sealed header items) f
 
 abbrev from_file : CdcWords → Stamp → Files → Result Parsed Refusal → Outcome
-from_file words stamp f read = read >>= λ parsed. changed_header words stamp parsed.header >>= λ header. makes (sealed header parsed.items) f
+from_file words stamp f read = read >>= λ parsed. changed_header words stamp parsed.header >>= λ header. makes
+    (sealed header parsed.items) f
 
 pub outcome_is : (words : CdcWords) (stamp : Stamp) (n i : List ℕ) (named : List (Option Content)) (f : Files)
-    → cdc_outcome words stamp n i named f ≡ (checked_file f.s >>= λ parsed. changed_header words stamp parsed.header >>= λ header. makes (sealed header parsed.items) f)
+    → cdc_outcome words stamp n i named f ≡ (checked_file f.s >>= λ parsed. changed_header words stamp parsed.header
+    >>= λ header. makes (sealed header parsed.items) f)
 unfolding cdc_outcome
 outcome_is words stamp n i named f = refl
 
-outcome_seen : (words : CdcWords) (stamp : Stamp) (n i : List ℕ) (named : List (Option Content)) (v : View) (r : Result Parsed Refusal) → IsSFileName n → checked_file (v n) ≡ r → cdc_outcome words stamp n i named (files_at n v) ≡ from_file words stamp (files_at n v) r
+outcome_seen : (words : CdcWords) (stamp : Stamp) (n i : List ℕ) (named : List (Option Content)) (v : View)
+    (r : Result Parsed Refusal) → IsSFileName n → checked_file (v n) ≡ r → cdc_outcome words stamp n i named
+    (files_at n v) ≡ from_file words stamp (files_at n v) r
 outcome_seen words stamp n i named v r sfile is =
-    outcome_is words stamp n i named (files_at n v) ∙ ap (from_file words stamp (files_at n v)) (ap (λ (o : Option Content). checked_file o) (s_unlocked n v sfile) ∙ is)
+    outcome_is words stamp n i named (files_at n v) ∙ ap (from_file words stamp (files_at n v))
+    (ap (λ (o : Option Content). checked_file o) (s_unlocked n v sfile) ∙ is)
 
 -- ---- nothing was read
 
-not_read : (words : CdcWords) (stamp : Stamp) (fault : StepFault) (n i : List ℕ) (v : View) (out err : Option (List ℕ)) → IsSFileName n → ReadsSfile n v (Err fault)
-    → Prepares (Err fault) n (cdc_outcome words stamp n i [] (files_at n v)) (world (Some v) out err) (world (Some v) out err)
+not_read : (words : CdcWords) (stamp : Stamp) (fault : StepFault) (n i : List ℕ) (v : View) (out err : Option (List ℕ))
+    → IsSFileName n → ReadsSfile n v (Err fault)
+    → Prepares (Err fault) n (cdc_outcome words stamp n i [] (files_at n v)) (world (Some v) out err)
+    (world (Some v) out err)
 not_read words stamp (Refused refusal) n i v out err sfile reads =
     (outcome_seen words stamp n i [] v (Err refusal) sfile reads, unmade n [] v (Some v) out err (λ k h. refl))
 not_read words stamp Memory n i v out err sfile reads = unmade n _ v (Some v) out err (λ k h. refl)
@@ -75,11 +83,14 @@ not_read words stamp ReadFault n i v out err sfile reads = absurd reads
 not_read words stamp WriteFault n i v out err sfile reads = absurd reads
 not_read words stamp DiskFault n i v out err sfile reads = unmade n _ v (Some v) out err (λ k h. refl)
 
-pub read_fails : (words : CdcWords) (stamp : Stamp) (fault : StepFault) (n : List ℕ) (left : Option (List ℕ)) (o o2 : Option View) (out err : Option (List ℕ)) → IsSFileName n → o2 ≡ o → IfSome o (λ (v : View). ReadsSfile n v (Err fault))
+pub read_fails : (words : CdcWords) (stamp : Stamp) (fault : StepFault) (n : List ℕ) (left : Option (List ℕ))
+    (o o2 : Option View) (out err : Option (List ℕ)) → IsSFileName n → o2 ≡ o
+    → IfSome o (λ (v : View). ReadsSfile n v (Err fault))
     → PreparesChange (cdc_change words stamp) (Err fault) n left (world o out err) (world o2 out err)
 read_fails words stamp fault n left None o2 out err sfile same reads = tt
 read_fails words stamp fault n left (Some v) o2 out err sfile same reads = λ i heard.
-    subst (λ (w : Option View). Prepares (Err fault) n (cdc_outcome words stamp n i [] (files_at n v)) (world (Some v) out err) (world w out err)) (sym same) (not_read words stamp fault n i v out err sfile reads)
+    subst (λ (w : Option View). Prepares (Err fault) n (cdc_outcome words stamp n i [] (files_at n v))
+    (world (Some v) out err) (world w out err)) (sym same) (not_read words stamp fault n i v out err sfile reads)
 
 -- ---- the file that was read
 
@@ -96,7 +107,8 @@ record HasFile (n : List ℕ) (v : View) (front : Front) (parsed : Parsed) : Typ
   items : items_of old.bytes front ≡ Ok parsed.items
   whole : file_of old.bytes ≡ Ok parsed
 
-has_file_at : (n : List ℕ) (v : View) (front : Front) (parsed : Parsed) (o : Option Content) → v n ≡ o → ShowsUnsummed (bytes_at o) parsed front → answer file_of (bytes_at o) ≡ Ok parsed → HasFile n v front parsed
+has_file_at : (n : List ℕ) (v : View) (front : Front) (parsed : Parsed) (o : Option Content) → v n ≡ o
+    → ShowsUnsummed (bytes_at o) parsed front → answer file_of (bytes_at o) ≡ Ok parsed → HasFile n v front parsed
 has_file_at n v front parsed None s shows read = absurd shows
 has_file_at n v front parsed (Some c) s shows read = record {
   old = c;
@@ -108,28 +120,38 @@ has_file_at n v front parsed (Some c) s shows read = record {
 }
 
 has_file : (n : List ℕ) (v : View) (front : Front) → (reads : ReadsSfile n v (Ok front)) → HasFile n v front reads.0
-has_file n v front reads = has_file_at n v front reads.0 (v n) refl reads.1 (read_ok (answer file_of (bytes_at (v n))) reads.0 reads.2)
+has_file n v front reads = has_file_at n v front reads.0 (v n) refl reads.1
+    (read_ok (answer file_of (bytes_at (v n))) reads.0 reads.2)
 
 -- what writing says of a told file
 abbrev pub Writes : CdcWords → Stamp → List ℕ → Front → Result Prepared StepFault → Told → Option View → Type 0
 Writes words stamp n front r a new =
-    (file : List ℕ) (items : List Item) → bytes_in (seen a) n ≡ Some file → IsFrontFor file front → items_of file front ≡ Ok items → Alters r (changed_header words stamp front.header) items n (seen a) new
+    (file : List ℕ) (items : List Item) → bytes_in (seen a) n ≡ Some file → IsFrontFor file front
+    → items_of file front ≡ Ok items → Alters r (changed_header words stamp front.header) items n (seen a) new
 
 -- what was made of the header that was read
-made_at : (words : CdcWords) (stamp : Stamp) (n : List ℕ) (v : View) (front : Front) (r : Result Prepared StepFault) (a : Told) (new : Option View) → seen a ≡ Some v → (reads : ReadsSfile n v (Ok front)) → Writes words stamp n front r a new
+made_at : (words : CdcWords) (stamp : Stamp) (n : List ℕ) (v : View) (front : Front) (r : Result Prepared StepFault)
+    (a : Told) (new : Option View) → seen a ≡ Some v → (reads : ReadsSfile n v (Ok front))
+    → Writes words stamp n front r a new
     → Alters r (changed_header words stamp reads.0.header) reads.0.items n (Some v) new
 made_at words stamp n v front r a new here reads writes =
     let f = has_file n v front reads in
     subst (λ (o : Option View). Alters r (changed_header words stamp reads.0.header) reads.0.items n o new) here
-    (subst (λ (h : Header). Alters r (changed_header words stamp h) reads.0.items n (seen a) new) f.header (writes f.old.bytes reads.0.items (bytes_seen n v (seen a) f.old here f.s) f.front_is f.items))
+    (subst (λ (h : Header). Alters r (changed_header words stamp h) reads.0.items n (seen a) new) f.header
+    (writes f.old.bytes reads.0.items (bytes_seen n v (seen a) f.old here f.s) f.front_is f.items))
 
 -- ---- the x-file is written
 
-made_outcome : (words : CdcWords) (stamp : Stamp) (n i : List ℕ) (v : View) (front : Front) (made : Result Header Refusal) → IsSFileName n → (reads : ReadsSfile n v (Ok front)) → changed_header words stamp reads.0.header ≡ made
+made_outcome : (words : CdcWords) (stamp : Stamp) (n i : List ℕ) (v : View) (front : Front)
+    (made : Result Header Refusal) → IsSFileName n → (reads : ReadsSfile n v (Ok front))
+    → changed_header words stamp reads.0.header ≡ made
     → cdc_outcome words stamp n i [] (files_at n v) ≡ from_header reads.0.items (files_at n v) made
-made_outcome words stamp n i v front made sfile reads is = outcome_seen words stamp n i [] v (Ok reads.0) sfile reads.2 ∙ ap (from_header reads.0.items (files_at n v)) is
+made_outcome words stamp n i v front made sfile reads is = outcome_seen words stamp n i [] v (Ok reads.0) sfile reads.2
+    ∙ ap (from_header reads.0.items (files_at n v)) is
 
-prepared_at : (words : CdcWords) (stamp : Stamp) (r : Result Prepared StepFault) (n i : List ℕ) (v : View) (front : Front) (o2 : Option View) (out err : Option (List ℕ)) → IsSFileName n → (reads : ReadsSfile n v (Ok front)) → IfOk r IsNewSfile → Moves (bytes_eq (x_file n)) (λ u. u) (Some v) o2
+prepared_at : (words : CdcWords) (stamp : Stamp) (r : Result Prepared StepFault) (n i : List ℕ) (v : View)
+    (front : Front) (o2 : Option View) (out err : Option (List ℕ)) → IsSFileName n → (reads : ReadsSfile n v (Ok front))
+    → IfOk r IsNewSfile → Moves (bytes_eq (x_file n)) (λ u. u) (Some v) o2
     → Alters r (changed_header words stamp reads.0.header) reads.0.items n (Some v) o2
     → Prepares r n (cdc_outcome words stamp n i [] (files_at n v)) (world (Some v) out err) (world o2 out err)
 prepared_at words stamp (Ok p) n i v front o2 out err sfile reads is_new moves alters =
@@ -143,26 +165,40 @@ prepared_at words stamp (Ok p) n i v front o2 out err sfile reads is_new moves a
       message = sym is_new.message;
       view = moves_wider (bytes_eq (x_file n)) (is_working n) (Some v) o2 (no_x n) moves;
       working = x_alone n p (Some v) o2 is_new.s moves;
-      files = subst (λ (o : Option View). IfSome o (λ u. files_of (Some c) f.p f.g f.l ≡ Some (files_after n (plan_of p) u))) (sym alters.2) (new_files n c v p sfile is_new);
+      files = subst (λ (o : Option View). IfSome o (λ u. files_of (Some c) f.p f.g f.l ≡ Some
+          (files_after n (plan_of p) u))) (sym alters.2) (new_files n c v p sfile is_new);
       out = gives_none out;
     }
 prepared_at words stamp (Err (Refused refusal)) n i v front o2 out err sfile reads is_new moves alters =
     (made_outcome words stamp n i v front (Err refusal) sfile reads alters, unmade n [] v o2 out err moves)
-prepared_at words stamp (Err Memory) n i v front o2 out err sfile reads is_new moves alters = unmade n _ v o2 out err moves
+prepared_at words stamp (Err Memory) n i v front o2 out err sfile reads is_new moves alters =
+    unmade n _ v o2 out err moves
 prepared_at words stamp (Err ReadFault) n i v front o2 out err sfile reads is_new moves alters = absurd alters
 prepared_at words stamp (Err WriteFault) n i v front o2 out err sfile reads is_new moves alters = absurd alters
-prepared_at words stamp (Err DiskFault) n i v front o2 out err sfile reads is_new moves alters = unmade n _ v o2 out err moves
+prepared_at words stamp (Err DiskFault) n i v front o2 out err sfile reads is_new moves alters =
+    unmade n _ v o2 out err moves
 
-pub read_prepares : (words : CdcWords) (stamp : Stamp) (r : Result Prepared StepFault) (n : List ℕ) (left : Option (List ℕ)) (front : Front) (o : Option View) (a b : Told) (out err : Option (List ℕ)) → IsSFileName n → seen a ≡ o → IfSome o (λ (v : View). ReadsSfile n v (Ok front)) → IfOk r IsNewSfile
-    → Moves (bytes_eq (x_file n)) (λ u. u) (seen a) (seen b) → Writes words stamp n front r a (seen b) → PreparesChange (cdc_change words stamp) r n left (world o out err) (world (seen b) out err)
+pub read_prepares : (words : CdcWords) (stamp : Stamp) (r : Result Prepared StepFault) (n : List ℕ)
+    (left : Option (List ℕ)) (front : Front) (o : Option View) (a b : Told) (out err : Option (List ℕ)) → IsSFileName n
+    → seen a ≡ o → IfSome o (λ (v : View). ReadsSfile n v (Ok front)) → IfOk r IsNewSfile
+    → Moves (bytes_eq (x_file n)) (λ u. u) (seen a) (seen b) → Writes words stamp n front r a (seen b)
+    → PreparesChange (cdc_change words stamp) r n left (world o out err) (world (seen b) out err)
 read_prepares words stamp r n left front None a b out err sfile here reads is_new moves writes = tt
 read_prepares words stamp r n left front (Some v) a b out err sfile here reads is_new moves writes = λ i heard.
-    prepared_at words stamp r n i v front (seen b) out err sfile reads is_new (subst (λ (o : Option View). Moves (bytes_eq (x_file n)) (λ u. u) o (seen b)) here moves) (made_at words stamp n v front r a (seen b) here reads writes)
+    prepared_at words stamp r n i v front (seen b) out err sfile reads is_new
+    (subst (λ (o : Option View). Moves (bytes_eq (x_file n)) (λ u. u) o (seen b)) here moves)
+    (made_at words stamp n v front r a (seen b) here reads writes)
 
 -- ---- what may come
 
-pub read_speaks : (r : Result Prepared StepFault) → IfOk r IsNewSfile → RefusesWithin cdc_checks r → CouldPrepare (quiet_checks cdc_checks) r
-read_speaks (Ok p) is_new within = (record { new = None; text = []; out = []; err = []; status = 0 }, refl, refl, sym is_new.message)
+pub read_speaks : (r : Result Prepared StepFault) → IfOk r IsNewSfile → RefusesWithin cdc_checks r
+    → CouldPrepare (quiet_checks cdc_checks) r
+read_speaks (Ok p) is_new within = (
+  record { new = None; text = []; out = []; err = []; status = 0 },
+  refl,
+  refl,
+  sym is_new.message,
+)
 read_speaks (Err (Refused refusal)) is_new within = within refusal refl
 read_speaks (Err Memory) is_new within = tt
 read_speaks (Err ReadFault) is_new within = tt
@@ -171,11 +207,16 @@ read_speaks (Err DiskFault) is_new within = tt
 
 -- ---- entries
 
-pub read_settles : (words : CdcWords) (stamp : Stamp) (r : Result Prepared StepFault) (n : List ℕ) (front : Front) (o : Option View) (a b : Told) → IsSFileName n → seen a ≡ o → IsHeader front.header → IsSpelled front.header → IfSome o (λ (v : View). ReadsSfile n v (Ok front)) → IfOk r IsNewSfile → IfOk r (λ p. HasLines words stamp)
-    → Moves (bytes_eq (x_file n)) (λ u. u) (seen a) (seen b) → Writes words stamp n front r a (seen b) → IfOk r (λ p. SettlesEntries n p b)
+pub read_settles : (words : CdcWords) (stamp : Stamp) (r : Result Prepared StepFault) (n : List ℕ) (front : Front)
+    (o : Option View) (a b : Told) → IsSFileName n → seen a ≡ o → IsHeader front.header → IsSpelled front.header
+    → IfSome o (λ (v : View). ReadsSfile n v (Ok front)) → IfOk r IsNewSfile → IfOk r (λ p. HasLines words stamp)
+    → Moves (bytes_eq (x_file n)) (λ u. u) (seen a) (seen b) → Writes words stamp n front r a (seen b)
+    → IfOk r (λ p. SettlesEntries n p b)
 read_settles words stamp (Err fault) n front o a b sfile here rules spelled reads is_new lines moves writes = tt
-read_settles words stamp (Ok p) n front None a b sfile here rules spelled reads is_new lines moves writes = settles_none n p a b here moves
+read_settles words stamp (Ok p) n front None a b sfile here rules spelled reads is_new lines moves writes =
+    settles_none n p a b here moves
 read_settles words stamp (Ok p) n front (Some v) a b sfile here rules spelled reads is_new lines moves writes =
     let f = has_file n v front reads in
     let made = made_at words stamp n v front (Ok p) a (seen b) here reads writes in
-    changed_settles words stamp n reads.0.header made.0 reads.0.items p v f.old b sfile is_new lines f.s (subst IsHeader f.header rules) (subst IsSpelled f.header spelled) f.whole made.1 made.2
+    changed_settles words stamp n reads.0.header made.0 reads.0.items p v f.old b sfile is_new lines f.s
+    (subst IsHeader f.header rules) (subst IsSpelled f.header spelled) f.whole made.1 made.2

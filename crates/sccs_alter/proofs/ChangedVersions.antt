@@ -33,7 +33,9 @@ effect_is a b is = cc
 abbrev file_with : Header → Parsed → Parsed
 file_with header before = record { header = header; items = before.items }
 
-texts : (words : CdcWords) (stamp : Stamp) (before : Parsed) (new : Header) (is : changed_header words stamp before.header ≡ Ok new) → (made : IsMade words stamp before.header new) → ChangesTexts words stamp before (file_with new before) made.delta
+texts : (words : CdcWords) (stamp : Stamp) (before : Parsed) (new : Header)
+    (is : changed_header words stamp before.header ≡ Ok new) → (made : IsMade words stamp before.header new)
+    → ChangesTexts words stamp before (file_with new before) made.delta
 texts words stamp before new is made =
     let same = new_same words stamp before.header new is in
     record {
@@ -42,12 +44,16 @@ texts words stamp before new is made =
       deltas = same;
       live = same_live new.records before.header.records same;
       sets = λ asked. same_applied asked new.records before.header.records same;
-      versions = λ m. ap (λ set. select set (lines_of before.items)) (same_applied (version_of m) new.records before.header.records same);
+      versions = λ m. ap (λ set. select set (lines_of before.items))
+          (same_applied (version_of m) new.records before.header.records same);
       comment = old_is_last stamp (new_lines (text_changes words) made.delta) made.delta.comments;
     }
 
-made : (words : CdcWords) (stamp : Stamp) (f : Files) (old : Content) (effect new_effect : StepEffect) (before : Parsed) (new : Header) → HasLines words stamp → file_of old.bytes ≡ Ok before → changed_header words stamp before.header ≡ Ok new
-    → new_effect.new ≡ Some (record { s = Some (sealed new before.items); p = f.p; z = None; g = f.g; l = f.l }) → new_effect ≡ effect → ChangesDelta words stamp f old effect
+made : (words : CdcWords) (stamp : Stamp) (f : Files) (old : Content) (effect new_effect : StepEffect) (before : Parsed)
+    (new : Header) → HasLines words stamp → file_of old.bytes ≡ Ok before → changed_header words stamp before.header
+    ≡ Ok new
+    → new_effect.new ≡ Some (record { s = Some (sealed new before.items); p = f.p; z = None; g = f.g; l = f.l })
+    → new_effect ≡ effect → ChangesDelta words stamp f old effect
 made words stamp f old effect new_effect before new lines was is files same =
     let rules = file_keeps old.bytes before was in
     let delta = made_of words stamp before.header new is in
@@ -59,20 +65,29 @@ made words stamp f old effect new_effect before new lines was is files same =
       meant = delta.meant;
       texts = texts words stamp before new is delta;
       files = ap (λ (e : StepEffect). e.new) (sym same) ∙ files;
-      reads = changed_reads words stamp old.bytes before.header new before.items lines rules.header rules.spelled was is;
+      reads = changed_reads words stamp old.bytes before.header new before.items lines rules.header rules.spelled was
+          is;
     }
 
-pub cdc_made : (words : CdcWords) (stamp : Stamp) (n i : List ℕ) (named : List (Option Content)) (f : Files) (old : Content) (effect : StepEffect) → HasLines words stamp → f.s ≡ Some old → cdc_outcome words stamp n i named f ≡ Ok effect → ChangesDelta words stamp f old effect
+pub cdc_made : (words : CdcWords) (stamp : Stamp) (n i : List ℕ) (named : List (Option Content)) (f : Files)
+    (old : Content) (effect : StepEffect) → HasLines words stamp → f.s ≡ Some old → cdc_outcome words stamp n i named f
+    ≡ Ok effect → ChangesDelta words stamp f old effect
 cdc_made words stamp n i named f old effect lines there is =
-    let read = passed (checked_file f.s) (λ parsed. changed_header words stamp parsed.header >>= λ header. makes (sealed header parsed.items) f) effect (sym (outcome_is words stamp n i named f) ∙ is) in
-    let new = passed (changed_header words stamp read.0.header) (λ header. makes (sealed header read.0.items) f) effect read.2 in
-    let whole : file_of old.bytes ≡ Ok read.0 = answer_read false old.bytes read.0 (read_ok (answer file_of (Some old.bytes)) read.0 (ap (λ (o : Option Content). checked_file o) (sym there) ∙ read.1)) in
+    let read = passed (checked_file f.s) (λ parsed. changed_header words stamp parsed.header >>= λ header. makes
+    (sealed header parsed.items) f) effect (sym (outcome_is words stamp n i named f) ∙ is) in
+    let new = passed (changed_header words stamp read.0.header) (λ header. makes (sealed header read.0.items) f) effect
+    read.2 in
+    let whole : file_of old.bytes ≡ Ok read.0 = answer_read false old.bytes read.0
+    (read_ok (answer file_of (Some old.bytes)) read.0 (ap (λ (o : Option Content). checked_file o) (sym there)
+    ∙ read.1)) in
     made words stamp f old effect _ read.0 new.0 lines whole new.1 refl (effect_is _ effect new.2)
 
 -- without an s-file it is refused
-pub file_needed : (words : CdcWords) (stamp : Stamp) (n i : List ℕ) (named : List (Option Content)) (f : Files) (effect : StepEffect) → cdc_outcome words stamp n i named f ≡ Ok effect → f.s ≡ None → ⊥
+pub file_needed : (words : CdcWords) (stamp : Stamp) (n i : List ℕ) (named : List (Option Content)) (f : Files)
+    (effect : StepEffect) → cdc_outcome words stamp n i named f ≡ Ok effect → f.s ≡ None → ⊥
 file_needed words stamp n i named f effect is none =
-    let read = passed (checked_file f.s) (λ parsed. changed_header words stamp parsed.header >>= λ header. makes (sealed header parsed.items) f) effect (sym (outcome_is words stamp n i named f) ∙ is) in
+    let read = passed (checked_file f.s) (λ parsed. changed_header words stamp parsed.header >>= λ header. makes
+    (sealed header parsed.items) f) effect (sym (outcome_is words stamp n i named f) ∙ is) in
     gone read.0 (ap (λ (o : Option Content). checked_file o) (sym none) ∙ read.1)
   where
     gone : (parsed : Parsed) → checked_file None ≡ Ok parsed → ⊥

@@ -13,8 +13,12 @@ use Rattle.sccs_history.specs.declared.headers.Item.{Item}
 use Rattle.sccs_copies.proofs.FileReads.{HasItems, IsLegal, legal_items, legal_lines, unsummed_fits}
 
 -- Another header over the items of a file that was read, with the same delta table, is read back.
-pub header_reads : (bytes : List ℕ) (header new : Header) (items : List Item) → unsummed_file bytes ≡ Ok (record { header = header; items = items }) → IsHeader new → IsSpelled new → new.records ≡ header.records → IsSFile (canonical new items) new items
+pub header_reads : (bytes : List ℕ) (header new : Header) (items : List Item) → unsummed_file bytes ≡ Ok
+    (record { header = header; items = items }) → IsHeader new → IsSpelled new → new.records ≡ header.records
+    → IsSFile (canonical new items) new items
 header_reads bytes header new items whole keeps spelled same =
-    let has_items : HasItems header items = subst (λ r. IfOk r (λ (f : Parsed). HasItems f.header f.items)) whole (unsummed_fits bytes) in
+    let has_items : HasItems header items = subst (λ r. IfOk r (λ (f : Parsed). HasItems f.header f.items)) whole
+    (unsummed_fits bytes) in
     let are : AllByRecursion IsLegal items = has_items.legal (subst IsTable same keeps.table) in
-    canonical_again new items keeps spelled (legal_items items are) (legal_lines items are) (subst (λ records. GoesOn (live_serials records) [] items) (sym same) has_items.goes)
+    canonical_again new items keeps spelled (legal_items items are) (legal_lines items are)
+    (subst (λ records. GoesOn (live_serials records) [] items) (sym same) has_items.goes)

@@ -27,7 +27,8 @@ pub record HasParts (words : AdminWords) (h : Header) (text : List ℕ) (new : H
 same_header : (r : Result Header Refusal) (a b : Header) → r ≡ Ok a → r ≡ Ok b → b ≡ a
 same_header r a b first second = cc
 
-pub parts_of : (words : AdminWords) (h : Header) (text : List ℕ) (new : Header) → altered_header words h text ≡ Ok new → HasParts words h text new
+pub parts_of : (words : AdminWords) (h : Header) (text : List ℕ) (new : Header) → altered_header words h text ≡ Ok new
+    → HasParts words h text new
 unfolding altered_header
 parts_of words h text new is =
     let description = passed (described words.description h.description text) _ new is in
@@ -37,27 +38,37 @@ parts_of words h text new is =
       flags = flags.0;
       described_is = description.1;
       changed = flags_ok (changed_flags h.flags words.set words.unset) flags.0 flags.1;
-      is = same_header (Ok (with_rules h (changed_users h.users words.add words.erase) flags.0 description.0)) (with_rules h (changed_users h.users words.add words.erase) flags.0 description.0) new refl flags.2;
+      is = same_header (Ok (with_rules h (changed_users h.users words.add words.erase) flags.0 description.0))
+          (with_rules h (changed_users h.users words.add words.erase) flags.0 description.0) new refl flags.2;
     }
 
 -- ---- headers
 
-pub altered_records : (words : AdminWords) (text : List ℕ) (h new : Header) → altered_header words h text ≡ Ok new → new.records ≡ h.records
+pub altered_records : (words : AdminWords) (text : List ℕ) (h new : Header) → altered_header words h text ≡ Ok new
+    → new.records ≡ h.records
 altered_records words text h new is = ap (λ (x : Header). x.records) (parts_of words h text new is).is
 
-pub altered_rules : (words : AdminWords) (h : Header) (text : List ℕ) (new : Header) → IsHeader h → altered_header words h text ≡ Ok new → IsHeader new
+pub altered_rules : (words : AdminWords) (h : Header) (text : List ℕ) (new : Header) → IsHeader h
+    → altered_header words h text ≡ Ok new → IsHeader new
 altered_rules words h text new rules is =
     let parts = parts_of words h text new is in
-    subst IsHeader (sym parts.is) (header_kept h words.add words.erase words.set words.unset parts.flags parts.description rules parts.changed (described_bare words.description h.description parts.description text rules.description parts.described_is))
+    subst IsHeader (sym parts.is) (header_kept h words.add words.erase words.set words.unset parts.flags
+    parts.description rules parts.changed (described_bare words.description h.description parts.description text
+    rules.description parts.described_is))
 
-pub altered_spelled : (words : AdminWords) (h : Header) (text : List ℕ) (new : Header) → IsSpelled h → altered_header words h text ≡ Ok new → IsSpelled new
+pub altered_spelled : (words : AdminWords) (h : Header) (text : List ℕ) (new : Header) → IsSpelled h
+    → altered_header words h text ≡ Ok new → IsSpelled new
 altered_spelled words h text new spelled is =
     let parts = parts_of words h text new is in
-    subst IsSpelled (sym parts.is) (spelled_kept h words.add words.erase words.set words.unset parts.flags parts.description spelled parts.changed (described_lines words.description h.description parts.description text spelled.description parts.described_is))
+    subst IsSpelled (sym parts.is) (spelled_kept h words.add words.erase words.set words.unset parts.flags
+    parts.description spelled parts.changed (described_lines words.description h.description parts.description text
+    spelled.description parts.described_is))
 
 -- ---- part by part
 
-pub description_ends : (words : AdminWords) (h : Header) (text : List ℕ) (fault : StepFault) → Answers {A = List (List ℕ)} (described words.description h.description text) (Err fault) → Answers {A = Header} (altered_header words h text) (Err fault)
+pub description_ends : (words : AdminWords) (h : Header) (text : List ℕ) (fault : StepFault)
+    → Answers {A = List (List ℕ)} (described words.description h.description text) (Err fault)
+    → Answers {A = Header} (altered_header words h text) (Err fault)
 unfolding altered_header
 description_ends words h text (step.Refused refusal) answers = rw answers refl
 description_ends words h text step.Memory answers = tt
@@ -65,7 +76,9 @@ description_ends words h text step.DiskFault answers = tt
 description_ends words h text step.ReadFault answers = answers
 description_ends words h text step.WriteFault answers = answers
 
-pub flags_end : (words : AdminWords) (h : Header) (text : List ℕ) (description : List (List ℕ)) (fault : StepFault) → described words.description h.description text ≡ Ok description → Answers {A = List Flag} (or_bad_flag (changed_flags h.flags words.set words.unset)) (Err fault)
+pub flags_end : (words : AdminWords) (h : Header) (text : List ℕ) (description : List (List ℕ)) (fault : StepFault)
+    → described words.description h.description text ≡ Ok description → Answers {A = List Flag}
+    (or_bad_flag (changed_flags h.flags words.set words.unset)) (Err fault)
     → Answers {A = Header} (altered_header words h text) (Err fault)
 unfolding altered_header
 flags_end words h text description (step.Refused refusal) is answers = rw (is, answers) refl
@@ -74,7 +87,11 @@ flags_end words h text description step.DiskFault is answers = tt
 flags_end words h text description step.ReadFault is answers = answers
 flags_end words h text description step.WriteFault is answers = answers
 
-pub all_altered : (words : AdminWords) (h : Header) (text : List ℕ) (description users : List (List ℕ)) (flags : List Flag) → described words.description h.description text ≡ Ok description → or_bad_flag (changed_flags h.flags words.set words.unset) ≡ Ok flags
-    → users ≡ changed_users h.users words.add words.erase → altered_header words h text ≡ Ok (with_rules h users flags description)
+pub all_altered : (words : AdminWords) (h : Header) (text : List ℕ) (description users : List (List ℕ))
+    (flags : List Flag) → described words.description h.description text ≡ Ok description
+    → or_bad_flag (changed_flags h.flags words.set words.unset) ≡ Ok flags
+    → users ≡ changed_users h.users words.add words.erase → altered_header words h text ≡ Ok
+    (with_rules h users flags description)
 unfolding altered_header
-all_altered words h text description users flags is set same = rw (is, set) (ap (λ us. Ok (with_rules h us flags description)) (sym same))
+all_altered words h text description users flags is set same =
+    rw (is, set) (ap (λ us. Ok (with_rules h us flags description)) (sym same))

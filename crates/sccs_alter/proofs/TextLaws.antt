@@ -1,5 +1,6 @@
 -- Texts with changes: what comes before an old comment, and that all of it are lines.
-use Rattle.std.proofs.Common.{◌≡◌, ◌≢◌, ℕ, ◌<◌, ◌==◌, Bool, true, false, not, List, [], ◌∷◌, ◌++◌, map, length, Option, None, Some, IfSome, refl, sym, ap, ◌∙◌, subst, arith, cond, append_assoc, append-nil}
+use Rattle.std.proofs.Common.{◌≡◌, ◌≢◌, ℕ, ◌<◌, ◌==◌, Bool, true, false, not, List, [], ◌∷◌, ◌++◌, map, length, Option}
+use Rattle.std.proofs.Common.{None, Some, IfSome, refl, sym, ap, ◌∙◌, subst, arith, cond, append_assoc, append-nil}
 use Rattle.std.specs.Prelude.{codes}
 use Rattle.std.specs.List.{AllByRecursion}
 use Rattle.std.proofs.lemmas.List.Elements.{recursion_from_All, All-from_recursion}
@@ -12,7 +13,8 @@ use Rattle.sccs_history.specs.Numbers.{front_if}
 use Rattle.sccs_history.specs.declared.headers.Record.{Record}
 use Rattle.sccs_tokens.proofs.LineLaws.{Visible, date_seen, time_seen, without_lf}
 use Rattle.sccs_tokens.proofs.NoLf.{NoLf}
-use Rattle.sccs_alter.specs.Changes.{before_old, changed_line, changed_mrs, deleted_line, given_lines, gone_by, gone_mrs, has_mr, mrs_by, new_lines, taken_away, without_mr}
+use Rattle.sccs_alter.specs.Changes.{before_old, changed_line, changed_mrs, deleted_line, given_lines, gone_by}
+use Rattle.sccs_alter.specs.Changes.{gone_mrs, has_mr, mrs_by, new_lines, taken_away, without_mr}
 use Rattle.sccs_alter.specs.declared.changes.TextChanges.{TextChanges}
 
 -- ---- before an old comment
@@ -21,18 +23,25 @@ pub nothing_new : (stamp : Stamp) (new old : List (List ℕ)) → length new ≡
 nothing_new stamp [] old none = refl
 nothing_new stamp (line ∷ lines) old none = absurd (omega (arith, none))
 
-pub something_new : (stamp : Stamp) (new old : List (List ℕ)) → length new ≢ 0 → new ++ changed_line stamp ∷ old ≡ before_old stamp new old
+pub something_new : (stamp : Stamp) (new old : List (List ℕ)) → length new ≢ 0 → new ++ changed_line stamp ∷ old
+    ≡ before_old stamp new old
 something_new stamp [] old some = absurd (some refl)
 something_new stamp (line ∷ lines) old some = refl
 
-pub old_follows : (stamp : Stamp) (new text old all : List (List ℕ)) (line bytes : List ℕ) → line ≡ changed_line stamp → bytes ≡ line → text ≡ new ++ bytes ∷ [] → all ≡ text ++ old → all ≡ new ++ changed_line stamp ∷ old
+pub old_follows : (stamp : Stamp) (new text old all : List (List ℕ)) (line bytes : List ℕ) → line ≡ changed_line stamp
+    → bytes ≡ line → text ≡ new ++ bytes ∷ [] → all ≡ text ++ old → all ≡ new ++ changed_line stamp ∷ old
 old_follows stamp new text old all line bytes changed same put follow =
     follow ∙ (ap (λ t. t ++ old) put ∙ (append_assoc new (bytes ∷ []) old ∙ ap (λ l. new ++ l ∷ old) (same ∙ changed)))
 
 -- the old comment is the end of the new one
-pub old_is_last : (stamp : Stamp) (new old : List (List ℕ)) → (front : List (List ℕ)) × (before_old stamp new old ≡ front ++ old)
+pub old_is_last : (stamp : Stamp) (new old : List (List ℕ)) → (front : List (List ℕ))
+    × (before_old stamp new old ≡ front ++ old)
 old_is_last stamp [] old = ([], refl)
-old_is_last stamp (line ∷ lines) old = (line ∷ lines ++ changed_line stamp ∷ [], line_last (line ∷ lines) (changed_line stamp) old)
+old_is_last stamp (line ∷ lines) old = (
+  line ∷ lines ++ changed_line stamp ∷ [],
+  line_last (line ∷ lines)
+      (changed_line stamp) old,
+)
   where
     line_last : (xs : List (List ℕ)) (x : List ℕ) (ys : List (List ℕ)) → xs ++ x ∷ ys ≡ (xs ++ x ∷ []) ++ ys
     line_last [] x ys = refl
@@ -44,7 +53,8 @@ more_lines : (lines more : List (List ℕ)) → AreLines lines → AreLines more
 more_lines [] more are others = others
 more_lines (line ∷ lines) more are others = (are.0, more_lines lines more are.1 others)
 
-line_if : (t : Bool) (line : List ℕ) (lines : List (List ℕ)) → HasNoLf line → AreLines lines → AreLines (front_if t line lines)
+line_if : (t : Bool) (line : List ℕ) (lines : List (List ℕ)) → HasNoLf line → AreLines lines
+    → AreLines (front_if t line lines)
 line_if true line lines is are = (is, are)
 line_if false line lines is are = are
 
@@ -68,7 +78,8 @@ taken_line : (word : List ℕ) → HasNoLf word → IsLineOr (taken_away word)
 taken_line [] is = tt
 taken_line (b ∷ bytes) is = taken_by (b == 33) bytes (no_lf_behind b bytes is)
 
-by_lines : (mr : Option (List ℕ)) (mrs : List (List ℕ)) (word : List ℕ) → HasNoLf word → AreLines mrs → AreLines (mrs_by mr mrs word)
+by_lines : (mr : Option (List ℕ)) (mrs : List (List ℕ)) (word : List ℕ) → HasNoLf word → AreLines mrs
+    → AreLines (mrs_by mr mrs word)
 by_lines (Some mr) mrs word is are = left_lines mrs mr are
 by_lines None mrs word is are = more_lines mrs (front_if (not (has_mr mrs word)) word []) are (line_if _ word [] is tt)
 
@@ -79,13 +90,16 @@ gone_lines_by None mrs is = tt
 pub changed_lines : (words mrs : List (List ℕ)) → AreLines words → AreLines mrs → AreLines (changed_mrs words mrs)
 unfolding changed_mrs
 changed_lines [] mrs are lines = lines
-changed_lines (word ∷ words) mrs are lines = changed_lines words (mrs_by (taken_away word) mrs word) are.1 (by_lines (taken_away word) mrs word are.0 lines)
+changed_lines (word ∷ words) mrs are lines = changed_lines words (mrs_by (taken_away word) mrs word) are.1
+    (by_lines (taken_away word) mrs word are.0 lines)
 
 gone_lines : (words mrs : List (List ℕ)) → AreLines words → AreLines (gone_mrs words mrs)
 unfolding gone_mrs
 gone_lines [] mrs are = tt
 gone_lines (word ∷ words) mrs are =
-    more_lines (gone_by (taken_away word) mrs) (gone_mrs words (mrs_by (taken_away word) mrs word)) (gone_lines_by (taken_away word) mrs (taken_line word are.0)) (gone_lines words (mrs_by (taken_away word) mrs word) are.1)
+    more_lines (gone_by (taken_away word) mrs) (gone_mrs words (mrs_by (taken_away word) mrs word))
+    (gone_lines_by (taken_away word) mrs (taken_line word are.0))
+    (gone_lines words (mrs_by (taken_away word) mrs word) are.1)
 
 -- ---- the lines that come new
 
@@ -105,7 +119,32 @@ none_before (b ∷ bytes) more are none = (λ same. differ b same are.0, none_be
 
 deleted_line_is : (mr : List ℕ) → HasNoLf mr → HasNoLf (deleted_line mr)
 deleted_line_is mr is =
-    as_line (deleted_line mr) (none_before (codes "*** DELETED MR *** ") mr (refl, (refl, (refl, (refl, (refl, (refl, (refl, (refl, (refl, (refl, (refl, (refl, (refl, (refl, (refl, (refl, (refl, (refl, (refl, tt))))))))))))))))))) (no_lf_in mr is))
+    as_line (deleted_line mr) (none_before (codes "*** DELETED MR *** ") mr (
+      refl,
+      (
+        refl,
+        (
+          refl,
+          (
+            refl,
+            (
+              refl,
+              (
+                refl,
+                (
+                  refl,
+                  (
+                    refl,
+                    (refl, (refl, (refl, (refl, (refl, (refl, (refl, (refl, (refl, (refl, (refl, tt))))))))))),
+                  ),
+                ),
+              ),
+            ),
+          ),
+        ),
+      ),
+    )
+    (no_lf_in mr is))
 
 deleted_lines : (gone : List (List ℕ)) → AreLines gone → AreLines (map deleted_line gone)
 deleted_lines [] are = tt
@@ -115,24 +154,55 @@ login_seen : (login : List ℕ) → IsLogin login → Visible login
 login_seen login is = recursion_from_All (λ b. 32 < b) login is.visible
 
 moment_line : (stamp : Stamp) → IsLogin stamp.login → NoLf (moment_text stamp.moment ++ (32 ∷ stamp.login))
-moment_line stamp is = no_lf_joined (civil_date (civil_of stamp.moment)) (civil_time (civil_of stamp.moment)) stamp.login (date_seen (civil_of stamp.moment)) (time_seen (civil_of stamp.moment)) (login_seen stamp.login is)
+moment_line stamp is = no_lf_joined (civil_date (civil_of stamp.moment)) (civil_time (civil_of stamp.moment))
+    stamp.login (date_seen (civil_of stamp.moment)) (time_seen (civil_of stamp.moment)) (login_seen stamp.login is)
   where
     behind : (bytes more : List ℕ) → Visible bytes → Visible more → NoLf (bytes ++ (32 ∷ more))
-    behind bytes more are others = without_lf bytes (32 ∷ more) are ((λ same. absurd (omega (arith, same))), subst NoLf (append-nil more) (without_lf more [] others tt))
+    behind bytes more are others = without_lf bytes (32 ∷ more) are (
+      (λ same. absurd (omega (arith, same))),
+      subst NoLf
+          (append-nil more) (without_lf more [] others tt),
+    )
 
-    no_lf_joined : (date time login : List ℕ) → Visible date → Visible time → Visible login → NoLf ((date ++ (32 ∷ time)) ++ (32 ∷ login))
-    no_lf_joined date time login dates times logins = subst NoLf (sym (append_assoc date (32 ∷ time) (32 ∷ login))) (without_lf date (32 ∷ (time ++ (32 ∷ login))) dates ((λ same. absurd (omega (arith, same))), behind time login times logins))
+    no_lf_joined : (date time login : List ℕ) → Visible date → Visible time → Visible login
+        → NoLf ((date ++ (32 ∷ time)) ++ (32 ∷ login))
+    no_lf_joined date time login dates times logins = subst NoLf (sym (append_assoc date (32 ∷ time) (32 ∷ login)))
+        (without_lf date (32 ∷ (time ++ (32 ∷ login))) dates (
+          (λ same. absurd (omega (arith, same))),
+          behind time login times logins,
+        ))
 
 changed_line_is : (stamp : Stamp) → IsLogin stamp.login → HasNoLf (changed_line stamp)
 changed_line_is stamp is =
-    as_line (changed_line stamp) (none_before (codes "*** CHANGED *** ") (moment_text stamp.moment ++ (32 ∷ stamp.login)) (refl, (refl, (refl, (refl, (refl, (refl, (refl, (refl, (refl, (refl, (refl, (refl, (refl, (refl, (refl, (refl, tt)))))))))))))))) (moment_line stamp is))
+    as_line (changed_line stamp) (none_before (codes "*** CHANGED *** ") (moment_text stamp.moment
+    ++ (32 ∷ stamp.login)) (
+      refl,
+      (
+        refl,
+        (
+          refl,
+          (
+            refl,
+            (
+              refl,
+              (refl, (refl, (refl, (refl, (refl, (refl, (refl, (refl, (refl, (refl, (refl, tt))))))))))),
+            ),
+          ),
+        ),
+      ),
+    )
+    (moment_line stamp is))
 
-pub before_lines : (stamp : Stamp) (new old : List (List ℕ)) → IsLogin stamp.login → AreLines new → AreLines old → AreLines (before_old stamp new old)
+pub before_lines : (stamp : Stamp) (new old : List (List ℕ)) → IsLogin stamp.login → AreLines new → AreLines old
+    → AreLines (before_old stamp new old)
 before_lines stamp [] old login are olds = olds
-before_lines stamp (line ∷ lines) old login are olds = more_lines (line ∷ lines) (changed_line stamp ∷ old) are (changed_line_is stamp login, olds)
+before_lines stamp (line ∷ lines) old login are olds = more_lines (line ∷ lines) (changed_line stamp ∷ old) are
+    (changed_line_is stamp login, olds)
 
-pub new_are_lines : (changes : TextChanges) (r : Record) → AreLines changes.mrs → AreLines changes.comment → AreLines (new_lines changes r)
-new_are_lines changes r mrs comment = more_lines changes.comment (map deleted_line (gone_mrs changes.mrs r.mrs)) comment (deleted_lines (gone_mrs changes.mrs r.mrs) (gone_lines changes.mrs r.mrs mrs))
+pub new_are_lines : (changes : TextChanges) (r : Record) → AreLines changes.mrs → AreLines changes.comment
+    → AreLines (new_lines changes r)
+new_are_lines changes r mrs comment = more_lines changes.comment (map deleted_line (gone_mrs changes.mrs r.mrs)) comment
+    (deleted_lines (gone_mrs changes.mrs r.mrs) (gone_lines changes.mrs r.mrs mrs))
 
 -- the lines of a comment that is given are lines
 pub given_are_lines : (comment : Option (List (List ℕ))) → IfSome comment AreLines → AreLines (given_lines comment)

@@ -74,4 +74,11 @@ alter_outcome words n input named f = do
   makes (sealed header read.parsed.items) f
 
 abbrev pub alter_change : AdminWords → Changing
-alter_change words = record { outcome = alter_outcome words; named = λ n. named_by words.description; takes = false; silent = true; early = false; could = quiet_checks alter_checks }
+alter_change words = record {
+  outcome = alter_outcome words;
+  named = λ n. named_by words.description;
+  takes = false;
+  silent = true;
+  early = false;
+  could = quiet_checks alter_checks;
+}

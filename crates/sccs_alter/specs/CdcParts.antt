@@ -18,7 +18,8 @@ use Rattle.sccs_alter.specs.CdcStep.{changeable}
 
 -- the front is that of the s-file that is read, or a check fails
 abbrev pub ReadsSfile : List ℕ → View → Result Front StepFault → Type 0
-ReadsSfile n v (Ok front) = (parsed : Parsed) × ShowsUnsummed (bytes_at (v n)) parsed front × (checked_file (v n) ≡ Ok parsed)
+ReadsSfile n v (Ok front) = (parsed : Parsed) × ShowsUnsummed (bytes_at (v n)) parsed front
+    × (checked_file (v n) ≡ Ok parsed)
 ReadsSfile n v (Err (Refused refusal)) = checked_file (v n) ≡ Err refusal
 ReadsSfile n v (Err Memory) = Unit {0}
 ReadsSfile n v (Err DiskFault) = Unit {0}
@@ -27,7 +28,8 @@ ReadsSfile n v (Err WriteFault) = ⊥
 
 -- the serial of the delta that may be changed, or the check that fails
 abbrev pub FindsChangeable : CdcWords → Stamp → Header → Result ℕ StepFault → Type 0
-FindsChangeable words stamp header (Ok serial) = (delta : Record) × (changeable words stamp header ≡ Ok delta) × (delta.serial ≡ serial)
+FindsChangeable words stamp header (Ok serial) = (delta : Record) × (changeable words stamp header ≡ Ok delta)
+    × (delta.serial ≡ serial)
 FindsChangeable words stamp header (Err (Refused refusal)) = changeable words stamp header ≡ Err refusal
 FindsChangeable words stamp header (Err _) = ⊥
 

@@ -1,4 +1,5 @@
--- What cdc does with the files of a name: the MRs and the comment of one delta are changed. SCCS has it, and POSIX lacks it.
+-- What cdc does with the files of a name: the MRs and the comment of one delta are changed. SCCS has it, and POSIX
+-- lacks it.
 -- The order of the checks is own.
 use Rattle.std.specs.Prelude.{ℕ, not, ◌||◌, false, true, List, [], ◌∷◌, Result, Ok}
 use Rattle.sccs_sid.specs.Reading.{◌>>=◌, is_empty}
@@ -32,7 +33,8 @@ cdc_checks =
     ∷ number_of refusals.MrNotAllowed ∷ number_of (refusals.Unsupported 0) ∷ number_of refusals.NotOwner
     ∷ number_of (refusals.Changed 0 0 0 0) ∷ []
 
--- The live delta of a SID, where a login may change what is said of it: the login may make deltas, MRs are given only where
+-- The live delta of a SID, where a login may change what is said of it: the login may make deltas, MRs are given only
+-- where
 -- the flag v is set, and names no program, and the login made the delta or the first one of the file.
 unfoldable pub changeable : CdcWords → Stamp → Header → Result Record Refusal
 changeable words stamp header = do
@@ -53,7 +55,8 @@ changed_header words stamp header = do
   delta ← changeable words stamp header
   Ok (with_changes (text_changes words) stamp delta.serial header)
 
--- the s-file is written anew with that header, also where nothing is changed; its body, p-file and g-file stay, and nothing is
+-- the s-file is written anew with that header, also where nothing is changed; its body, p-file and g-file stay, and
+-- nothing is
 -- said
 unfoldable pub cdc_outcome : CdcWords → Stamp → Step
 cdc_outcome words stamp n input named f = do

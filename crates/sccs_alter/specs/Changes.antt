@@ -1,5 +1,7 @@
--- The MRs and the comment of one delta, changed: cdc of SCCS, which POSIX lacks. The forms of the lines that are added are own.
-use Rattle.std.specs.Prelude.{◌≡◌, ℕ, ◌==◌, not, Bool, List, [], ◌∷◌, ◌++◌, map, Option, None, Some, codes, if◌then◌else◌}
+-- The MRs and the comment of one delta, changed: cdc of SCCS, which POSIX lacks. The forms of the lines that are added
+-- are own.
+use Rattle.std.specs.Prelude.{◌≡◌, ℕ, ◌==◌, not, Bool, List, [], ◌∷◌, ◌++◌, map, Option, None, Some, codes}
+use Rattle.std.specs.Prelude.{if◌then◌else◌}
 use Rattle.std.specs.List.{list_any}
 use Rattle.std.specs.Str.{bytes_eq}
 use Rattle.sccs_sid.specs.Moment.{moment_text}

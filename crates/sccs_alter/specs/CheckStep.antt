@@ -1,4 +1,5 @@
--- What admin -h does: it makes the checks on an s-file, and says and changes nothing. POSIX, Shell and Utilities, admin, -h.
+-- What admin -h does: it makes the checks on an s-file, and says and changes nothing. POSIX, Shell and Utilities,
+-- admin, -h.
 use Rattle.std.specs.Prelude.{◌≡◌, ℕ, true, false, List, [], ◌∷◌, Option, None, Result, Ok, Err}
 use Rattle.std.proofs.Common.{sym, ap}
 use Rattle.sccs_base.specs.Name.{is_sfile_name}
@@ -61,4 +62,11 @@ changes_none (Ok parsed) d is = ap (λ (e : StepEffect). e.new) (let same : no_e
 changes_none (Err refusal) d is = absurd cc
 
 pub check_keeps : KeepsFiles check_action
-check_keeps = record { quiet = λ reads n i named f d is. changes_none (checked_file f.s) d is; names = λ changes n fits. absurd cc; locked = λ changes locks n i named f d is there g new. absurd cc; pending = λ changes never n i v f d there is. absurd cc }
+check_keeps = record {
+  quiet = λ reads n i named f d is. changes_none (checked_file f.s) d is;
+  names =
+      λ changes n fits. absurd cc;
+  locked = λ changes locks n i named f d is there g new. absurd cc;
+  pending =
+      λ changes never n i v f d there is. absurd cc;
+}

@@ -13,7 +13,8 @@ use Rattle.sccs_words.specs.declared.commands.CdcWords.{CdcWords}
 use Rattle.sccs_alter.specs.CdcStep.{changeable, text_changes}
 use Rattle.sccs_alter.specs.Changes.{AreSameDeltas, changed_delta, with_changes}
 
--- MRs and comment of a delta are changed: all else of each record stays, and so do users, flags and description, the items,
+-- MRs and comment of a delta are changed: all else of each record stays, and so do users, flags and description, the
+-- items,
 -- the live deltas, each set, each version, and the end of the comment.
 pub record ChangesTexts (words : CdcWords) (stamp : Stamp) (before after : Parsed) (delta : Record) : Type 0 where
   pub header : after.header ≡ with_changes (text_changes words) stamp delta.serial before.header
@@ -27,13 +28,21 @@ pub record ChangesTexts (words : CdcWords) (stamp : Stamp) (before after : Parse
       × ((changed_delta (text_changes words) stamp delta).comments ≡ front ++ delta.comments)
 
 -- What cdc's step did: the file that was there, the delta that the words mean, and the file that is there then.
-pub record ChangesDelta (words : CdcWords) (stamp : Stamp) (f : Files) (old : Content) (effect : StepEffect) : Type 0 where
-  pub before : Parsed
-  pub delta : Record
-  pub after : Parsed
-  pub was : IsSFile old.bytes before.header before.items
-  pub meant : changeable words stamp before.header ≡ Ok delta
-  pub texts : ChangesTexts words stamp before after delta
-  -- the new s-file reads as this file; p-file and g-file stay
-  pub files : effect.new ≡ Some (record { s = Some (sealed after.header after.items); p = f.p; z = None; g = f.g; l = f.l })
-  pub reads : IsSFile (sealed after.header after.items).bytes after.header after.items
+pub record ChangesDelta (words : CdcWords) (stamp : Stamp) (f : Files) (old : Content) (effect : StepEffect) : Type 0
+  where
+    pub before : Parsed
+    pub delta : Record
+    pub after : Parsed
+    pub was : IsSFile old.bytes before.header before.items
+    pub meant : changeable words stamp before.header ≡ Ok delta
+    pub texts : ChangesTexts words stamp before after delta
+    -- the new s-file reads as this file; p-file and g-file stay
+    pub files : effect.new ≡ Some (record {
+      s = Some (sealed after.header after.items);
+      p = f.p;
+      z = None;
+      g = f.g;
+      l =
+          f.l;
+    })
+    pub reads : IsSFile (sealed after.header after.items).bytes after.header after.items

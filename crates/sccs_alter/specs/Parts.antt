@@ -25,22 +25,29 @@ use Rattle.sccs_alter.specs.declared.reading.Read.{Read}
 
 -- the front of a whole file, with its sum or whatever that is, or its refusal
 abbrev pub AnswersRead : Bool → Option (List ℕ) → Result Front FileFault → Type 0
-AnswersRead fix o result = ShowsOrRefuses (λ parsed front. ShowsUnsummed o parsed front) result (answer (file_read fix) o)
+AnswersRead fix o result = ShowsOrRefuses (λ parsed front. ShowsUnsummed o parsed front) result
+    (answer (file_read fix) o)
 
 -- the front and the text are those that are read, or a check fails
 abbrev pub ReadsAt : AdminWords → List ℕ → View → Result Read StepFault → Type 0
 ReadsAt words n v (Ok x) =
-    (parsed : Parsed) × ShowsUnsummed (bytes_at (v n)) parsed x.front × (read_file words (map (unlocked n v) (named_by words.description)) (v n) ≡ Ok (record { parsed = parsed; text = x.text }))
-ReadsAt words n v (Err (Refused refusal)) = read_file words (map (unlocked n v) (named_by words.description)) (v n) ≡ Err refusal
+    (parsed : Parsed) × ShowsUnsummed (bytes_at (v n)) parsed x.front
+    × (read_file words (map (unlocked n v) (named_by words.description)) (v n) ≡ Ok
+    (record { parsed = parsed; text = x.text }))
+ReadsAt words n v (Err (Refused refusal)) = read_file words (map (unlocked n v) (named_by words.description)) (v n)
+    ≡ Err refusal
 ReadsAt words n v (Err Memory) = Unit {0}
 ReadsAt words n v (Err DiskFault) = Unit {0}
 ReadsAt words n v (Err ReadFault) = ⊥
 ReadsAt words n v (Err WriteFault) = ⊥
 
--- the x-file is that of the header over these items, or there is none; of a told file nothing else keeps from that but the disk
+-- the x-file is that of the header over these items, or there is none; of a told file nothing else keeps from that but
+-- the disk
 -- and memory
-abbrev pub Alters : Result Prepared StepFault → Result Header Refusal → List Item → List ℕ → Option View → Option View → Type 0
-Alters (Ok p) made items n old new = (h : Header) × (made ≡ Ok h) × Becomes (λ v. put v (x_file n) (Some (sealed h items))) old new
+abbrev pub Alters : Result Prepared StepFault → Result Header Refusal → List Item → List ℕ → Option View → Option View
+    → Type 0
+Alters (Ok p) made items n old new = (h : Header) × (made ≡ Ok h)
+    × Becomes (λ v. put v (x_file n) (Some (sealed h items))) old new
 Alters (Err (Refused refusal)) made items n old new = made ≡ Err refusal
 Alters (Err Memory) made items n old new = Unit {0}
 Alters (Err DiskFault) made items n old new = Unit {0}

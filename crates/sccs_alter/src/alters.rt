@@ -55,10 +55,12 @@ pub fn write_header<D: Disk>(
     requires spelled { IsSpelled header.now }
     requires own { name_read copying.items ≡ name.now }
     ensures told { (file : List ℕ) (items : List Item) → bytes_in (seen (D.told disk.old)) name.now ≡ Some file
-        → CopyComes identity file items copying → Alters result (Ok header.now) items name.now (seen (D.told disk.old)) (seen (D.told disk.new)) }
+        → CopyComes identity file items copying → Alters result (Ok header.now) items name.now (seen (D.told disk.old))
+        (seen (D.told disk.new)) }
     ensures new { IfOk result IsNewSfile }
     ensures firm { IfOk result (λ p. IsFirmPrepared name.now p (D.told disk.old) (D.told disk.new)) }
-    ensures frame { MakesOneFile (x_file name.now) faults.DiskFault (D.told disk.old) (D.told disk.new) (D.faults disk.old) (D.faults disk.new) result }
+    ensures frame { MakesOneFile (x_file name.now) faults.DiskFault (D.told disk.old) (D.told disk.new)
+        (D.faults disk.old) (D.faults disk.new) result }
     ensures checks { RefusesWithin check_checks result }
     ensures read { result ≢ Err faults.ReadFault }
     ensures write { result ≢ Err faults.WriteFault }
@@ -82,10 +84,12 @@ fn write_read<D: Disk>(
     requires bound { length x.text ≤ file_limit }
     ensures told { (file : List ℕ) (items : List Item) → bytes_in (seen (D.told disk.old)) name.now ≡ Some file
         → IsFrontFor file x.front → items_of file x.front ≡ Ok items
-        → Alters result (altered_header words.now x.front.header x.text) items name.now (seen (D.told disk.old)) (seen (D.told disk.new)) }
+        → Alters result (altered_header words.now x.front.header x.text) items name.now (seen (D.told disk.old))
+        (seen (D.told disk.new)) }
     ensures new { IfOk result IsNewSfile }
     ensures firm { IfOk result (λ p. IsFirmPrepared name.now p (D.told disk.old) (D.told disk.new)) }
-    ensures frame { MakesOneFile (x_file name.now) faults.DiskFault (D.told disk.old) (D.told disk.new) (D.faults disk.old) (D.faults disk.new) result }
+    ensures frame { MakesOneFile (x_file name.now) faults.DiskFault (D.told disk.old) (D.told disk.new)
+        (D.faults disk.old) (D.faults disk.new) result }
     ensures checks { RefusesWithin alter_checks result }
     ensures read { result ≢ Err faults.ReadFault }
     ensures write { result ≢ Err faults.WriteFault }

@@ -9,7 +9,8 @@ ghost use Rattle.sccs_alter.specs.CdcStep.{cdc_outcome};
 ghost use Rattle.sccs_alter.specs.NewVersions.{ChangesDelta};
 ghost use Rattle.sccs_alter.specs.CdcParts.{HasLines};
 
-/// A cdc that is accepted changes the MRs and the comment of the delta that the words mean, and nothing else: no version,
+/// A cdc that is accepted changes the MRs and the comment of the delta that the words mean, and nothing else: no
+/// version,
 /// no set, no item and nothing else of a record; the old comment is the end of the new one, and the file can be read
 /// again.
 pub fn changes_keep_versions()

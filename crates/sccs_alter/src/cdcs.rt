@@ -37,7 +37,8 @@ use sccs_words::CdcWords;
 use std::alloc::Global;
 
 /// cdc on a name: the MRs and the comment of the live delta of a SID are changed. It refuses a name that is locked, an
-/// s-file that isn't there or can't be read, a login that may not make deltas, a SID that no live delta has, MRs where the
+/// s-file that isn't there or can't be read, a login that may not make deltas, a SID that no live delta has, MRs where
+/// the
 /// flag v isn't set or names a program, and a login that made neither the delta nor the first one, in this order. SCCS
 /// has cdc, and POSIX lacks it.
 #[derive(Drop)]
@@ -127,11 +128,13 @@ fn write_read<D: Disk>(
     requires spelled { IsSpelled front.header }
     ensures told { (file : List ℕ) (items : List Item) → bytes_in (seen (D.told disk.old)) name.now ≡ Some file
         → IsFrontFor file front → items_of file front ≡ Ok items
-        → Alters result (changed_header words.now stamp.now front.header) items name.now (seen (D.told disk.old)) (seen (D.told disk.new)) }
+        → Alters result (changed_header words.now stamp.now front.header) items name.now (seen (D.told disk.old))
+        (seen (D.told disk.new)) }
     ensures new { IfOk result IsNewSfile }
     ensures lines { IfOk result (λ _. HasLines words.now stamp.now) }
     ensures firm { IfOk result (λ p. IsFirmPrepared name.now p (D.told disk.old) (D.told disk.new)) }
-    ensures frame { MakesOneFile (x_file name.now) faults.DiskFault (D.told disk.old) (D.told disk.new) (D.faults disk.old) (D.faults disk.new) result }
+    ensures frame { MakesOneFile (x_file name.now) faults.DiskFault (D.told disk.old) (D.told disk.new)
+        (D.faults disk.old) (D.faults disk.new) result }
     ensures checks { RefusesWithin cdc_checks result }
     ensures read { result ≢ Err faults.ReadFault }
     ensures write { result ≢ Err faults.WriteFault }

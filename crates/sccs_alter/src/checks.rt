@@ -12,7 +12,8 @@ use sccs_sid::StepFault;
 use sccs_steps::Utility;
 use std::alloc::Global;
 
-/// admin -h on an s-file: it is read to its end, and refused where it isn't there, is too long, or isn't one with its sum.
+/// admin -h on an s-file: it is read to its end, and refused where it isn't there, is too long, or isn't one with its
+/// sum.
 /// Nothing is locked, changed or said. POSIX, Shell and Utilities, admin, -h.
 #[derive(Clone, Copy)]
 pub struct Check;

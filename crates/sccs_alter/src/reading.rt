@@ -36,7 +36,8 @@ pub struct Read {
 
 // whether the s-file is there
 fn check_there<D: Disk>(disk: &mut D, name: &Name) -> Result<(), StepFault>
-    ensures told { IfSome (seen (D.told disk.old)) (λ (v : View). PassesCheck (check (is_some (v name.now)) Missing) result) }
+    ensures told { IfSome (seen (D.told disk.old)) (λ (v : View). PassesCheck (check (is_some (v name.now)) Missing)
+        result) }
     ensures checks { RefusesWithin alter_checks result }
     ensures frame { OnlyReads D.told D.faults disk.old disk.new result }
 {
@@ -55,7 +56,8 @@ fn named_text<D: Disk>(
     disk: &mut D,
 ) -> Result<Bytes, StepFault>
     requires { IsSFileName name.now }
-    ensures told { IfSome (seen (D.told disk.old)) (λ v. Answers (description_text (given.From file.now) (map (unlocked name.now v) (named_by (given.From file.now)))) result) }
+    ensures told { IfSome (seen (D.told disk.old)) (λ v. Answers (description_text (given.From file.now)
+        (map (unlocked name.now v) (named_by (given.From file.now)))) result) }
     ensures bound { IfOk result (λ text. length text ≤ file_limit) }
     ensures checks { RefusesWithin alter_checks result }
     ensures frame { OnlyReads D.told D.faults disk.old disk.new result }
@@ -77,7 +79,8 @@ fn read_text<D: Disk>(
     disk: &mut D,
 ) -> Result<Bytes, StepFault>
     requires { IsSFileName name.now }
-    ensures told { IfSome (seen (D.told disk.old)) (λ v. Answers (description_text given (map (unlocked name.now v) (named_by given))) result) }
+    ensures told { IfSome (seen (D.told disk.old))
+        (λ v. Answers (description_text given (map (unlocked name.now v) (named_by given))) result) }
     ensures bound { IfOk result (λ text. length text ≤ file_limit) }
     ensures checks { RefusesWithin alter_checks result }
     ensures frame { OnlyReads D.told D.faults disk.old disk.new result }

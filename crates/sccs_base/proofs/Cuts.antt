@@ -1,5 +1,6 @@
 -- What cutting gives, by where the first LF is.
-use Rattle.std.proofs.Common.{◌≡◌, ◌≢◌, ℕ, ◌<◌, ◌==◌, List, [], ◌∷◌, length, take, get_or, refl, sym, ◌∙◌, arith, length-take}
+use Rattle.std.proofs.Common.{◌≡◌, ◌≢◌, ℕ, ◌<◌, ◌==◌, List, [], ◌∷◌, length, take, get_or, refl, sym, ◌∙◌, arith}
+use Rattle.std.proofs.Common.{length-take}
 use Rattle.std.proofs.lemmas.List.{get_or-take, get_or_default}
 use Rattle.sccs_base.specs.Cut.{Cut, HasNoLf, cut, before, closed, text_of}
 
@@ -15,7 +16,8 @@ pub cut-cons : (b : ℕ) (bytes : List ℕ) → cut (b ∷ bytes) ≡ before (b 
 unfolding cut
 cut-cons b bytes = refl
 
-pub closed-cons : (line : List ℕ) (lines : List (List ℕ)) (tail : List ℕ) → closed (line ∷ lines) tail ≡ line ∷ closed lines tail
+pub closed-cons : (line : List ℕ) (lines : List (List ℕ)) (tail : List ℕ) → closed (line ∷ lines) tail ≡ line
+    ∷ closed lines tail
 closed-cons line lines [] = refl
 closed-cons line lines (b ∷ tail) = refl
 
@@ -26,7 +28,8 @@ text-nil = refl
 pub no_lf_front : (at : ℕ) (bytes : List ℕ) → NoLfBefore bytes at → at < length bytes → HasNoLf (take at bytes)
 no_lf_front at bytes none l k d below =
     let short : k < at = omega (arith, length-take at bytes) in
-    let here : get_or (take at bytes) k d ≡ get_or bytes k 0 = get_or-take at bytes k d short ∙ get_or_default bytes k d 0 (omega arith) in
+    let here : get_or (take at bytes) k d ≡ get_or bytes k 0 = get_or-take at bytes k d short
+    ∙ get_or_default bytes k d 0 (omega arith) in
     λ is. none k short (sym here ∙ is)
 
 pub no_lf_all : (bytes : List ℕ) → NoLfBefore bytes (length bytes) → HasNoLf bytes

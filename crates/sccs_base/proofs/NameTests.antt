@@ -1,5 +1,6 @@
 -- The tests of names, from facts that the code finds.
-use Rattle.std.proofs.Common.{◌≡◌, ℕ, zero, suc, ◌<◌, Bool, true, false, ◌&&◌, nat_lt, List, [], ◌∷◌, take, drop, get_or, refl, ap, lit<}
+use Rattle.std.proofs.Common.{◌≡◌, ℕ, zero, suc, ◌<◌, Bool, true, false, ◌&&◌, nat_lt, List, [], ◌∷◌, take, drop}
+use Rattle.std.proofs.Common.{get_or, refl, ap, lit<}
 use Rattle.std.specs.List.{list_all}
 use Rattle.std.specs.Str.{is_utf8, bytes_eq}
 use Rattle.std.proofs.lemmas.Str.{is_utf8-from_IsUtf8, IsUtf8-from_ascii}
@@ -18,7 +19,8 @@ ascii_first false rest h = cc
 
 ascii_at : (bytes : List ℕ) → list_all (λ b. nat_lt b 128) bytes ≡ true → (i : ℕ) → get_or bytes i 0 < 128
 ascii_at [] low i = lit< tt
-ascii_at (b ∷ bytes) low zero = (Decides-ltb b 128).0 (ascii_first (nat_lt b 128) (list_all (λ c. nat_lt c 128) bytes) low)
+ascii_at (b ∷ bytes) low zero = (Decides-ltb b 128).0 (ascii_first (nat_lt b 128) (list_all (λ c. nat_lt c 128) bytes)
+    low)
 ascii_at (b ∷ bytes) low (suc i) = ascii_at bytes (ascii_rest (nat_lt b 128) (list_all (λ c. nat_lt c 128) bytes) low) i
 
 pub name_test : (r : Bool) (bytes : List ℕ) → Decides r (IsName bytes) → r ≡ is_name bytes
@@ -26,7 +28,8 @@ name_test r bytes found = same_from_decides r (is_name bytes) found (name_decide
 
 pub sfile_test : (r : Bool) (bytes : List ℕ) → IsName bytes → Decides r (IsSFileName bytes) → r ≡ is_sfile_name bytes
 sfile_test r bytes name found =
-    same_from_decides r (is_sfile_name bytes) (Decides-like r (λ sfile. (name, sfile)) (λ both. both.1) found) (sfile_name_decides bytes)
+    same_from_decides r (is_sfile_name bytes) (Decides-like r (λ sfile. (name, sfile)) (λ both. both.1) found)
+    (sfile_name_decides bytes)
 
 pub login_test : (r : Bool) (bytes : List ℕ) → Decides r (IsLogin bytes) → r ≡ is_login bytes
 login_test r bytes found = same_from_decides r (is_login bytes) found (login_decides bytes)

@@ -12,8 +12,10 @@ pub other_bytes : (a b : List ℕ) → a ≢ b → bytes_eq a b ≡ false
 other_bytes a b differ = false_from_ne_true (bytes_eq a b) (λ is. differ ((bytes_eq-Decides a b).0 is))
 
 pub bytes_eq_sym : (a b : List ℕ) → bytes_eq a b ≡ bytes_eq b a
-bytes_eq_sym a b = same_from_decides (bytes_eq a b) (bytes_eq b a) (bytes_eq-Decides a b) (Decides-like (bytes_eq b a) (λ e. sym e) (λ e. sym e) (bytes_eq-Decides b a))
+bytes_eq_sym a b = same_from_decides (bytes_eq a b) (bytes_eq b a) (bytes_eq-Decides a b) (Decides-like (bytes_eq b a)
+    (λ e. sym e) (λ e. sym e) (bytes_eq-Decides b a))
 
 pub no_bytes : (bytes : List ℕ) → (length bytes == 0) ≡ true → bytes ≡ []
 no_bytes [] is = refl
-no_bytes (b ∷ bytes) is = let none : suc (length bytes) ≡ 0 = eqb-true (suc (length bytes)) 0 is in absurd (omega (arith, none))
+no_bytes (b ∷ bytes) is = let none : suc (length bytes) ≡ 0 = eqb-true (suc (length bytes)) 0 is in
+    absurd (omega (arith, none))

@@ -1,5 +1,6 @@
 -- The name of an s-file with another first letter is a name.
-use Rattle.std.proofs.Common.{◌≡◌, ℕ, zero, suc, ◌-◌, ◌<◌, ◌≤◌, List, [], ◌∷◌, length, take, drop, get_or, ap, lit<, arith, length-drop}
+use Rattle.std.proofs.Common.{◌≡◌, ℕ, zero, suc, ◌-◌, ◌<◌, ◌≤◌, List, [], ◌∷◌, length, take, drop, get_or, ap, lit<}
+use Rattle.std.proofs.Common.{arith, length-drop}
 use Rattle.std.specs.Str.{IsUtf8}
 use Rattle.std.proofs.lemmas.Str.{IsUtf8-append, IsUtf8-drop, IsUtf8-from_ascii, IsCharBoundary-after_ascii}
 use Rattle.std.proofs.lemmas.List.Elements.{All-cons, All-drop}
@@ -27,7 +28,8 @@ rest_text name is sfile =
     let first : get_or name 0 0 ≡ 115 = head_is name sfile.front in
     IsUtf8-drop name 1 is.text (IsCharBoundary-after_ascii name 0 is.text is.some (omega arith))
 
-pub sibling_name : (name : List ℕ) (letter : ℕ) → IsName name → IsSFileName name → 97 ≤ letter → letter ≤ 122 → IsName (sibling letter name)
+pub sibling_name : (name : List ℕ) (letter : ℕ) → IsName name → IsSFileName name → 97 ≤ letter → letter ≤ 122
+    → IsName (sibling letter name)
 sibling_name name letter is sfile low high =
     let long : 2 < length name = sfile_long name sfile in
     let rest : length (drop 1 name) ≡ length name - 1 = length-drop 1 name in

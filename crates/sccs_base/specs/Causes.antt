@@ -8,7 +8,8 @@ pub record Caused {T E : Type 0} (fault : E) (before after : ℕ) (result : Resu
   pub cause : result ≡ Err fault → Rose before after
 
 -- A text is given to a sink: all of it, or a prefix where the sink failed.
-pub record GivesText {T E : Type 0} (text : List ℕ) (given given_after : Option (List ℕ)) (faults faults_after : ℕ) (result : Result T E) : Type 0 where
+pub record GivesText {T E : Type 0} (text : List ℕ) (given given_after : Option (List ℕ)) (faults faults_after : ℕ)
+    (result : Result T E) : Type 0 where
   pub ok : OnOk result (GivesOk given given_after text)
   pub err : OnErr result (GivesSome given given_after text)
   pub later : faults ≤ faults_after

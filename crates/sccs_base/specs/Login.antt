@@ -23,4 +23,5 @@ login_decides bytes =
     (λ l. (l.some, (l.short, l.visible)))
     (Decides-and _ _ (Decides-ltb 0 (length bytes))
     (Decides-and _ _ (Decides-ltb (length bytes) 65)
-    (Decides-by_and (nat_lt blank) (λ b. blank < b) (list_all (nat_lt blank)) (Decides-ltb blank) refl (λ _ _. refl) bytes)))
+    (Decides-by_and (nat_lt blank) (λ b. blank < b) (list_all (nat_lt blank)) (Decides-ltb blank) refl
+    (λ _ _. refl) bytes)))

@@ -4,7 +4,8 @@ use Rattle.std.specs.Bool.{Decides}
 use Rattle.std.specs.List.{list_all}
 use Rattle.std.specs.Str.{IsUtf8, is_utf8, bytes_eq}
 use Rattle.std.proofs.Common.{refl}
-use Rattle.std.proofs.lemmas.Bool.Decides.{Decides-and, Decides-not, Decides-ltb, Decides-eqb, Decides-by_and, Decides-like}
+use Rattle.std.proofs.lemmas.Bool.Decides.{Decides-and, Decides-not, Decides-ltb, Decides-eqb, Decides-by_and}
+use Rattle.std.proofs.lemmas.Bool.Decides.{Decides-like}
 use Rattle.std.proofs.lemmas.Slice.Eq.{bytes_eq-Decides}
 use Rattle.std.proofs.lemmas.Str.{IsUtf8-from_is_utf8, is_utf8-from_IsUtf8}
 use Rattle.sccs_base.specs.Constants.{lf}
@@ -28,7 +29,8 @@ pub record IsName (bytes : List ℕ) : Type 0 where
 -- whether it is a name
 unfoldable pub is_name : List ℕ → Bool
 is_name bytes =
-    nat_lt 0 (length bytes) && (nat_lt (length bytes) 251 && (not (bytes_eq bytes (46 ∷ [])) && (not (bytes_eq bytes (46 ∷ 46 ∷ [])) && (list_all is_plain bytes && is_utf8 bytes))))
+    nat_lt 0 (length bytes) && (nat_lt (length bytes) 251 && (not (bytes_eq bytes (46 ∷ []))
+    && (not (bytes_eq bytes (46 ∷ 46 ∷ [])) && (list_all is_plain bytes && is_utf8 bytes))))
 
 -- `s.` and a name by itself
 pub record IsSFileName (bytes : List ℕ) : Type 0 where
@@ -43,7 +45,8 @@ is_sfile_name bytes = is_name bytes && (bytes_eq (take 2 bytes) (115 ∷ 46 ∷ 
 abbrev pub sibling : ℕ → List ℕ → List ℕ
 sibling letter name = letter ∷ drop 1 name
 
--- the files beside an s-file: the pending edits, those that will be pending, the new s-file, the new g-file, and the lock
+-- the files beside an s-file: the pending edits, those that will be pending, the new s-file, the new g-file, and the
+-- lock
 abbrev pub p_file : List ℕ → List ℕ
 p_file name = 112 ∷ drop 1 name
 
@@ -61,7 +64,8 @@ z_file name = 122 ∷ drop 1 name
 
 plain_decides : (b : ℕ) → Decides (is_plain b) (IsPlain b)
 plain_decides b =
-    Decides-and _ _ (Decides-not _ (Decides-eqb b 47)) (Decides-and _ _ (Decides-not _ (Decides-eqb b lf)) (Decides-not _ (Decides-eqb b 0)))
+    Decides-and _ _ (Decides-not _ (Decides-eqb b 47)) (Decides-and _ _ (Decides-not _ (Decides-eqb b lf))
+    (Decides-not _ (Decides-eqb b 0)))
 
 utf8_decides : (bytes : List ℕ) → Decides (is_utf8 bytes) (IsUtf8 bytes)
 utf8_decides bytes = (IsUtf8-from_is_utf8 bytes, is_utf8-from_IsUtf8 bytes)
@@ -69,13 +73,22 @@ utf8_decides bytes = (IsUtf8-from_is_utf8 bytes, is_utf8-from_IsUtf8 bytes)
 pub name_decides : (bytes : List ℕ) → Decides (is_name bytes) (IsName bytes)
 unfolding is_name
 name_decides bytes =
-    Decides-like _ (λ h. record { some = h.0; short = h.1.0; not_here = h.1.1.0; not_above = h.1.1.1.0; plain = h.1.1.1.1.0; text = h.1.1.1.1.1 })
+    Decides-like _ (λ h. record {
+      some = h.0;
+      short = h.1.0;
+      not_here = h.1.1.0;
+      not_above = h.1.1.1.0;
+      plain =
+          h.1.1.1.1.0;
+      text = h.1.1.1.1.1;
+    })
     (λ n. (n.some, (n.short, (n.not_here, (n.not_above, (n.plain, n.text))))))
     (Decides-and _ _ (Decides-ltb 0 (length bytes))
     (Decides-and _ _ (Decides-ltb (length bytes) 251)
     (Decides-and _ _ (Decides-not _ (bytes_eq-Decides bytes (46 ∷ [])))
     (Decides-and _ _ (Decides-not _ (bytes_eq-Decides bytes (46 ∷ 46 ∷ [])))
-    (Decides-and _ _ (Decides-by_and is_plain IsPlain (list_all is_plain) plain_decides refl (λ _ _. refl) bytes) (utf8_decides bytes))))))
+    (Decides-and _ _ (Decides-by_and is_plain IsPlain (list_all is_plain) plain_decides refl (λ _ _. refl) bytes)
+    (utf8_decides bytes))))))
 
 pub sfile_name_decides : (bytes : List ℕ) → Decides (is_sfile_name bytes) (IsName bytes × IsSFileName bytes)
 unfolding is_sfile_name

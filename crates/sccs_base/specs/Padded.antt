@@ -16,7 +16,8 @@ padded_to room l = l ++ replicate (room - length l) 0
 pub padded_length : (room : ℕ) (bytes : List ℕ) (len : ℕ) → IsPadded room bytes len → length (take len bytes) ≡ len
 padded_length room bytes len h = omega (arith, length-take {A = ℕ}, h.room_is, h.within)
 
-pub padded_bytes : (room : ℕ) (bytes : List ℕ) (len : ℕ) → IsPadded room bytes len → padded_to room (take len bytes) ≡ bytes
+pub padded_bytes : (room : ℕ) (bytes : List ℕ) (len : ℕ) → IsPadded room bytes len → padded_to room (take len bytes)
+    ≡ bytes
 padded_bytes room bytes len h =
     ap (λ n. take len bytes ++ replicate (room - n) 0) (padded_length room bytes len h)
     ∙ (ap (λ rest. take len bytes ++ rest) (sym h.padded) ∙ take-append-drop len bytes)

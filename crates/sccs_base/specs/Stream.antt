@@ -1,5 +1,6 @@
 -- What one or several calls of a source or a sink do to what it tells. What told goes on telling.
-use Rattle.std.specs.Prelude.{◌≡◌, ℕ, ◌<◌, ◌≤◌, ◌⊎◌, ◌↔◌, ◌+◌, min, List, [], ◌++◌, Option, None, Some, length, take, drop}
+use Rattle.std.specs.Prelude.{◌≡◌, ℕ, ◌<◌, ◌≤◌, ◌⊎◌, ◌↔◌, ◌+◌, min, List, [], ◌++◌, Option, None, Some, length, take}
+use Rattle.std.specs.Prelude.{drop}
 
 -- the last number that a count of calls or faults can hold
 abbrev pub last_count : ℕ

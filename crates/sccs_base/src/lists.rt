@@ -1,6 +1,7 @@
 ghost use Rattle.std.specs.Fn.{CalledAt};
 ghost use Rattle.std.specs.List.Retain.{IsFiltered};
-ghost use Rattle.std.specs.Prelude.{◌≡◌, ◌<◌, ◌≤◌, List, [], ◌∷◌, ◌++◌, Some, length, insert, remove, reverse, set, slice_get, IfOk, OnOk, OnErr};
+ghost use Rattle.std.specs.Prelude.{◌≡◌, ◌<◌, ◌≤◌, List, [], ◌∷◌, ◌++◌, Some, length, insert, remove, reverse, set};
+ghost use Rattle.std.specs.Prelude.{slice_get, IfOk, OnOk, OnErr};
 
 use crate::file_names::Name;
 use crate::streams::Memory;

@@ -1,4 +1,5 @@
-ghost use Rattle.std.specs.Prelude.{◌≡◌, ℕ, ◌+◌, ◌<◌, ◌≤◌, ◌⊎◌, ◌↔◌, List, [], ◌++◌, Option, None, Some, length, take, drop, vec_len, vec_capacity, IsTrue, IsErr, IfOk, OnOk, OnErr, Contains};
+ghost use Rattle.std.specs.Prelude.{◌≡◌, ℕ, ◌+◌, ◌<◌, ◌≤◌, ◌⊎◌, ◌↔◌, List, [], ◌++◌, Option, None, Some, length, take};
+ghost use Rattle.std.specs.Prelude.{drop, vec_len, vec_capacity, IsTrue, IsErr, IfOk, OnOk, OnErr, Contains};
 ghost use Rattle.sccs_base.specs.Causes.{GivesText};
 ghost use Rattle.sccs_base.specs.Stream.{Rose, one_more, TakesOk, TakesNone, GivesOk, GivesSome};
 

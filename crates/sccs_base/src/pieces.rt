@@ -54,7 +54,8 @@ pub fn take_all<S: Source>(alloc: Global, source: &mut S, limit: u64) -> Result<
 
 /// Gives the parts in their order, as one text. Where it fails a prefix of that text was given.
 pub fn give_parts<S: Sink>(sink: &mut S, parts: &[&[u8]]) -> Result<(), Failed>
-    ensures { GivesText (flat_map (λ p. p.now) parts.now) (S.given sink.old) (S.given sink.new) (S.faults sink.old) (S.faults sink.new) result }
+    ensures { GivesText (flat_map (λ p. p.now) parts.now) (S.given sink.old) (S.given sink.new) (S.faults sink.old)
+        (S.faults sink.new) result }
 {
     for part in parts {
         let Ok(()) = sink.give(part) else {

@@ -13,7 +13,8 @@ pub type NameSet = BTreeSet<Vec<u8>, Global>;
 
 /// Puts a name among others, and says whether it is a new one.
 pub fn insert_name(names: &mut NameSet, alloc: Global, name: &[u8]) -> Result<bool, Memory>
-    ensures more { OnOk result ((n : List ℕ) → list_any (bytes_eq n) (names_in names.new) ≡ (bytes_eq n name.now || list_any (bytes_eq n) (names_in names.old))) }
+    ensures more { OnOk result ((n : List ℕ) → list_any (bytes_eq n) (names_in names.new)
+        ≡ (bytes_eq n name.now || list_any (bytes_eq n) (names_in names.old))) }
     ensures fresh { IfOk result (λ fresh. fresh ≡ not (list_any (bytes_eq name.now) (names_in names.old))) }
 {
     let bytes = name.to_vec(alloc)?;

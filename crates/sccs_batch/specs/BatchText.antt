@@ -1,4 +1,5 @@
--- The text of a batch (own): each entry is a line `@ DATE TIME LOGIN W I`, then W lines of one word each, then I lines of input.
+-- The text of a batch (own): each entry is a line `@ DATE TIME LOGIN W I`, then W lines of one word each, then I lines
+-- of input.
 use Rattle.std.specs.Prelude.{ℕ, zero, suc, ◌+◌, ◌&&◌, ◌||◌, not, Bool, false, List, [], ◌∷◌, codes, Option, None, Some}
 use Rattle.std.specs.Result.{result_ok}
 use Rattle.std.specs.Str.{bytes_eq}
@@ -30,12 +31,18 @@ is_single [] = false
 is_single (word ∷ words) = not (bytes_eq word (codes "batch") || bytes_eq word (codes "soak"))
 
 abbrev pub entry_with : EntryHead → List (List ℕ) → BatchEntry
-entry_with head rest = record { stamp = head.stamp; words = words_in head.counts rest; input = input_in head.counts rest }
+entry_with head rest = record {
+  stamp = head.stamp;
+  words = words_in head.counts rest;
+  input =
+      input_in head.counts rest;
+}
 
 -- the entry that begins so, with its words and its input in the lines that follow
 abbrev pub entry_by : EntryHead → List (List ℕ) → Option FoundEntry
 entry_by head rest =
-    only (has_own head.counts rest && is_single (words_in head.counts rest)) (record { entry = entry_with head rest; lines = head.counts.words + head.counts.lines })
+    only (has_own head.counts rest && is_single (words_in head.counts rest))
+    (record { entry = entry_with head rest; lines = head.counts.words + head.counts.lines })
 
 -- the entry of a line and those behind it
 abbrev pub batch_entry : List ℕ → List (List ℕ) → Option FoundEntry
@@ -52,12 +59,14 @@ no_more bad = record { entries = []; bad = bad }
 -- an entry and those behind its lines, or none
 abbrev pub batch_with : ℕ → Option FoundEntry → (ℕ → Batch) → Batch
 batch_with number None rest = no_more (Some number)
-batch_with number (Some found) rest = let more = rest found.lines in record { entries = found.entry ∷ more.entries; bad = more.bad }
+batch_with number (Some found) rest = let more = rest found.lines in
+    record { entries = found.entry ∷ more.entries; bad = more.bad }
 
 -- the entries of lines from this number on, behind so many that are passed over
 abbrev pub batch_from : ℕ → ℕ → List (List ℕ) → Batch
 batch_from skip number [] = no_more None
-batch_from zero number (line ∷ lines) = batch_with number (batch_entry line lines) (λ own. batch_from own (number + 1) lines)
+batch_from zero number (line ∷ lines) = batch_with number (batch_entry line lines)
+    (λ own. batch_from own (number + 1) lines)
 batch_from (suc skip) number (line ∷ lines) = batch_from skip (number + 1) lines
 
 abbrev pub batch_of : List (List ℕ) → Batch

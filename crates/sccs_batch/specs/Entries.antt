@@ -1,5 +1,7 @@
--- Entries of a text (own): a first line ends with two counts, then so many lines of one word each follow, and so many lines of input.
-use Rattle.std.specs.Prelude.{ℕ, ◌+◌, ◌&&◌, nat_lt, not, Bool, List, [], ◌∷◌, ◌++◌, length, take, drop, flat_map, Option, None, Some, option_map}
+-- Entries of a text (own): a first line ends with two counts, then so many lines of one word each follow, and so many
+-- lines of input.
+use Rattle.std.specs.Prelude.{ℕ, ◌+◌, ◌&&◌, nat_lt, not, Bool, List, [], ◌∷◌, ◌++◌, length, take, drop, flat_map}
+use Rattle.std.specs.Prelude.{Option, None, Some, option_map}
 use Rattle.sccs_base.specs.Constants.{lf}
 use Rattle.sccs_sid.specs.Reading.{behind, number, only, until}
 use Rattle.sccs_batch.specs.declared.texts.Counts.{Counts}

@@ -29,7 +29,8 @@ pub trait Commands {
     ghost begun: { Self → BatchEntry → List NamedStep → Type 0 };
 
     /// What changes files takes the names of s-files alone.
-    ghost takes: { (commands : Self) (entry : BatchEntry) (folder : Folder) (i : List ℕ) → AllTake (portions_of (command commands entry) folder i) };
+    ghost takes: { (commands : Self) (entry : BatchEntry) (folder : Folder) (i : List ℕ)
+        → AllTake (portions_of (command commands entry) folder i) };
 
     /// Some steps may have been begun.
     ghost might: { (commands : Self) (entry : BatchEntry) → (ts : List NamedStep) × begun commands entry ts };
@@ -45,6 +46,8 @@ pub trait Commands {
     ) -> Result<u8, Fault>
         requires moment { IsMoment entry.now.stamp.moment }
         requires single { is_single entry.now.words ≡ true }
-        ensures { RunsOwn (command self.now entry.now) (fits self.now entry.now) (whole self.now entry.now) (begun self.now entry.now) result
-            (quiet O.Sink E.Sink D.Disk out.old err.old disk.old) (quiet O.Sink E.Sink D.Disk out.new err.new disk.new) };
+        ensures { RunsOwn (command self.now entry.now) (fits self.now entry.now) (whole self.now entry.now)
+            (begun self.now entry.now) result
+            (quiet O.Sink E.Sink D.Disk out.old err.old disk.old)
+            (quiet O.Sink E.Sink D.Disk out.new err.new disk.new) };
 }

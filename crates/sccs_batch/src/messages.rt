@@ -6,7 +6,8 @@ use sccs_base::{Failed, Sink, give_parts};
 
 // writes the status of an entry
 pub fn write_status<S: Sink>(status: u8, out: &mut S) -> Result<(), Failed>
-    ensures { GivesText (status_line status) (S.given out.old) (S.given out.new) (S.faults out.old) (S.faults out.new) result }
+    ensures { GivesText (status_line status) (S.given out.old) (S.given out.new) (S.faults out.old)
+        (S.faults out.new) result }
 {
     let mut buffer = Buffer::new();
     let digits = buffer.format(status).as_bytes();
@@ -15,7 +16,8 @@ pub fn write_status<S: Sink>(status: u8, out: &mut S) -> Result<(), Failed>
 
 // writes the number of the line that is no entry
 pub fn write_bad<S: Sink>(number: u64, out: &mut S) -> Result<(), Failed>
-    ensures { GivesText (bad_entry_line number) (S.given out.old) (S.given out.new) (S.faults out.old) (S.faults out.new) result }
+    ensures { GivesText (bad_entry_line number) (S.given out.old) (S.given out.new) (S.faults out.old)
+        (S.faults out.new) result }
 {
     let mut buffer = Buffer::new();
     let digits = buffer.format(number).as_bytes();

@@ -51,7 +51,8 @@ fn is_single(words: &[Line]) -> bool
 
 // the entry of the lines that follow its first one
 fn entry_with(alloc: Global, head: &EntryHead, own: &OwnLines<'_>) -> Result<BatchEntry, Memory>
-    ensures { IfOk result (λ entry. (entry.stamp ≡ head.now.stamp) × (entry.words ≡ own.now.words.now) × (entry.input ≡ with_lfs own.now.input.now)) }
+    ensures { IfOk result (λ entry. (entry.stamp ≡ head.now.stamp) × (entry.words ≡ own.now.words.now)
+        × (entry.input ≡ with_lfs own.now.input.now)) }
 {
     let words = copy_words(alloc, own.words)?;
     let input = join_lines(alloc, own.input)?;

@@ -27,7 +27,8 @@ fn run_entry<C: Commands, O: Sink, E: Sink, D: Disk>(
 ) -> Result<u8, Fault>
     requires moment { IsMoment entry.now.stamp.moment }
     requires single { is_single entry.now.words ≡ true }
-    ensures { RunsEntry (C.command commands.now entry.now) (C.fits commands.now entry.now) (C.whole commands.now entry.now) (C.begun commands.now entry.now) result
+    ensures { RunsEntry (C.command commands.now entry.now) (C.fits commands.now entry.now)
+        (C.whole commands.now entry.now) (C.begun commands.now entry.now) result
         (quiet O.Sink E.Sink D.Disk out.old err.old disk.old) (quiet O.Sink E.Sink D.Disk out.new err.new disk.new) }
 {
     let status = commands.run(alloc, entry, out, err, disk)?;
@@ -49,7 +50,8 @@ fn run_next<C: Commands, O: Sink, E: Sink, D: Disk>(
     disk: &mut D,
 ) -> Result<Option<u32>, Fault>
     ensures within { IfOk result (λ next. IfSome next (λ own. own ≤ length tail.now)) }
-    ensures run { RunsNext (C.command commands.now) (C.fits commands.now) (C.whole commands.now) (C.begun commands.now) number line.now tail.now result
+    ensures run { RunsNext (C.command commands.now) (C.fits commands.now) (C.whole commands.now) (C.begun commands.now)
+        number line.now tail.now result
         (quiet O.Sink E.Sink D.Disk out.old err.old disk.old) (quiet O.Sink E.Sink D.Disk out.new err.new disk.new) }
 {
     let Ok(found) = read_entry(alloc, line, tail) else {
@@ -76,7 +78,8 @@ fn run_entries<C: Commands, O: Sink, E: Sink, D: Disk>(
     err: &mut E,
     disk: &mut D,
 ) -> Result<u8, Fault>
-    ensures { RunsEntries (C.command commands.now) (C.fits commands.now) (C.whole commands.now) (C.begun commands.now) (batch_of lines.now) result
+    ensures { RunsEntries (C.command commands.now) (C.fits commands.now) (C.whole commands.now) (C.begun commands.now)
+        (batch_of lines.now) result
         (quiet O.Sink E.Sink D.Disk out.old err.old disk.old) (quiet O.Sink E.Sink D.Disk out.new err.new disk.new) }
 {
     let mut at = 0;
@@ -112,7 +115,8 @@ pub fn refuse_input<E: Sink>(err: &mut E) -> Result<u8, Fault>
 }
 
 /// Runs the entries that the input is, in their order, each with its own stamp, words and input. Behind the output of
-/// each stands its status, as `= STATUS`. At the first entry that is none the line of its `@` is said, and the status is
+/// each stands its status, as `= STATUS`. At the first entry that is none the line of its `@` is said, and the status
+/// is
 /// 1; where the input was read to its end it is 0. Of an input past the limit nothing is run.
 pub fn run_batch<C: Commands, I: Source, O: Sink, E: Sink, D: Disk>(
     alloc: Global,
@@ -122,8 +126,10 @@ pub fn run_batch<C: Commands, I: Source, O: Sink, E: Sink, D: Disk>(
     err: &mut E,
     disk: &mut D,
 ) -> Result<u8, Fault>
-    ensures { RunsBatch (C.command commands.now) (C.fits commands.now) (C.whole commands.now) (C.begun commands.now) result
-        (setting_of I.Source O.Sink E.Sink D.Disk input.old out.old err.old disk.old) (setting_of I.Source O.Sink E.Sink D.Disk input.new out.new err.new disk.new) }
+    ensures { RunsBatch (C.command commands.now) (C.fits commands.now) (C.whole commands.now) (C.begun commands.now)
+        result
+        (setting_of I.Source O.Sink E.Sink D.Disk input.old out.old err.old disk.old)
+        (setting_of I.Source O.Sink E.Sink D.Disk input.new out.new err.new disk.new) }
 {
     match read_names(alloc, input, FILE_LIMIT) {
         Ok(lines) => run_entries(alloc, commands, lines.items(), out, err, disk),

@@ -1,5 +1,6 @@
 -- What the parts of a reading make of the answer for a whole file whose stored sum is passed over.
-use Rattle.std.proofs.Common.{◌≡◌, inl, inr, ℕ, ◌≤◌, true, false, List, [], length, drop, Option, None, Some, Result, Ok, Err, refl, sym, ap, ◌∙◌, subst, arith}
+use Rattle.std.proofs.Common.{◌≡◌, inl, inr, ℕ, ◌≤◌, true, false, List, [], length, drop, Option, None, Some, Result}
+use Rattle.std.proofs.Common.{Ok, Err, refl, sym, ap, ◌∙◌, subst, arith}
 use Rattle.std.specs.Prelude.{IfOk, IfSome}
 use Rattle.std.proofs.lemmas.Bool.{le-ltb}
 use Rattle.sccs_base.specs.Cut.{cut}
@@ -12,7 +13,8 @@ use Rattle.sccs_grammar.specs.Front.{ParsedFront, front_from, start}
 use Rattle.sccs_grammar.specs.File.{Opened, answer, as_format, opened}
 use Rattle.sccs_tokens.specs.Sums.{plain_sum}
 use Rattle.sccs_grammar.specs.declared.faults.FileFault.{FileFault}
-use Rattle.sccs_grammar.specs.declared.faults.FileFault.TheVariants.{Missing, TooLong, NotSccs, BadSum, BadFormat, Encoded, Changed, Failed, Memory}
+use Rattle.sccs_grammar.specs.declared.faults.FileFault.TheVariants.{Missing, TooLong, NotSccs, BadSum, BadFormat}
+use Rattle.sccs_grammar.specs.declared.faults.FileFault.TheVariants.{Encoded, Changed, Failed, Memory}
 use Rattle.sccs_table.specs.declared.fronts.Front.{Front}
 use Rattle.sccs_table.specs.FrontFile.{IsFrontOf, IsOuter, IsPlaced, Opens, ReadsLines, Refuses, SumLine, TakesSum}
 use Rattle.sccs_table.specs.ReaderState.{ReaderState, StandsIn, Stays, behind_sum, bytes_in, file_in, left}
@@ -32,7 +34,8 @@ front_unopened : (file : List ℕ) (e : FileFault) → opened file ≡ Err e →
 unfolding unsummed_front
 front_unopened file e is = rw is refl
 
-front_at : (file : List ℕ) (o : Opened) → opened file ≡ Ok o → unsummed_front file ≡ as_format (front_from 2 start o.lines)
+front_at : (file : List ℕ) (o : Opened) → opened file ≡ Ok o → unsummed_front file ≡ as_format
+    (front_from 2 start o.lines)
 unfolding unsummed_front
 front_at file o is = rw is refl
 
@@ -40,7 +43,8 @@ file_at_fault : (file : List ℕ) (e : FileFault) → unsummed_front file ≡ Er
 unfolding unsummed_file
 file_at_fault file e is = rw is refl
 
-file_from : (file : List ℕ) (p : ParsedFront) → unsummed_front file ≡ Ok p → unsummed_file file ≡ file_by p (items_from (live_serials p.header.records) p.line [] p.rest (cut file).tail)
+file_from : (file : List ℕ) (p : ParsedFront) → unsummed_front file ≡ Ok p → unsummed_file file ≡ file_by p
+    (items_from (live_serials p.header.records) p.line [] p.rest (cut file).tail)
 unfolding unsummed_file
 file_from file p is = rw is refl
 
@@ -80,12 +84,14 @@ module _ (file : List ℕ) (limit : length file ≤ 1073741824) (new : ReaderSta
   any_outer Memory outer = tt
 
   module _ (n : ℕ) (takes : TakesSum file new (Ok n)) where
-    lines_at : (last : ReaderState) (e : FileFault) → ReadsLines file new last start 2 (Err e) → AnswersUnsummed (Some file) (Err e)
+    lines_at : (last : ReaderState) (e : FileFault) → ReadsLines file new last start 2 (Err e)
+        → AnswersUnsummed (Some file) (Err e)
     lines_at last Missing reads = absurd reads
     lines_at last TooLong reads = absurd reads
     lines_at last NotSccs reads = absurd reads
     lines_at last (BadSum s c) reads = absurd reads
-    lines_at last (BadFormat k) reads = refused (BadFormat k) (file_at_fault file (BadFormat k) (front_at file _ takes.1 ∙ ap as_format reads))
+    lines_at last (BadFormat k) reads = refused (BadFormat k) (file_at_fault file (BadFormat k) (front_at file _ takes.1
+        ∙ ap as_format reads))
     lines_at last Encoded reads = absurd reads
     lines_at last (Changed a b c d) reads = absurd reads
     lines_at last Failed reads = tt
@@ -99,14 +105,19 @@ module _ (file : List ℕ) (limit : length file ≤ 1073741824) (new : ReaderSta
       front_of_file = record {
         header = refl;
         line = refl;
-        body = ap (λ k. cut (drop k file)) read.2 ∙ ap (λ (tail : List ℕ). record { lines = (left read.0 file).lines; tail = tail }) (sym (takes.2 ∙ read.1.1));
+        body = ap (λ k. cut (drop k file)) read.2
+            ∙ ap (λ (tail : List ℕ). record { lines = (left read.0 file).lines; tail = tail })
+            (sym (takes.2 ∙ read.1.1));
         size = read.3;
         sum = refl;
       }
 
-      found : (r : Result (List Item) ℕ) → items_of file front ≡ r → unsummed_file file ≡ file_by (front_read read.0 file front) r
+      found : (r : Result (List Item) ℕ) → items_of file front ≡ r → unsummed_file file ≡ file_by
+          (front_read read.0 file front) r
       found r is = file_from file (front_read read.0 file front) front_is
-          ∙ ap (λ (items : Result (List Item) ℕ). file_by (front_read read.0 file front) items) (sym (same_items file (front_read read.0 file front) (with_sum front (plain_sum (behind_sum file))) front_of_file) ∙ is)
+          ∙ ap (λ (items : Result (List Item) ℕ). file_by (front_read read.0 file front) items)
+          (sym (same_items file (front_read read.0 file front) (with_sum front (plain_sum (behind_sum file)))
+          front_of_file) ∙ is)
 
       items_at : (e : FileFault) → ChecksFile file front (Err e) → AnswersUnsummed (Some file) (Err e)
       items_at Missing checks = absurd checks
@@ -123,28 +134,46 @@ module _ (file : List ℕ) (limit : length file ≤ 1073741824) (new : ReaderSta
     any_refused e (inl read) = lines_at read.0 e read.1
     any_refused e (inr read) = items_at read.0 read.1 e read.2
 
-    pub any_encoded : (front : Front) → is_encoded front.header.flags ≡ true → ReadsBehind file new (Ok front) → AnswersUnsummed (Some file) (Err Encoded)
+    pub any_encoded : (front : Front) → is_encoded front.header.flags ≡ true → ReadsBehind file new (Ok front)
+        → AnswersUnsummed (Some file) (Err Encoded)
     any_encoded front encoded read = refused Encoded (found front read.0 (Ok read.1.0) read.1.1 ∙ rw encoded refl)
 
-    pub any_plain : (front : Front) (sum : ℕ) → IsPlainSumOf sum (behind_sum file) → IsPlaced front → is_encoded front.header.flags ≡ false → ReadsBehind file new (Ok front)
+    pub any_plain : (front : Front) (sum : ℕ) → IsPlainSumOf sum (behind_sum file) → IsPlaced front
+        → is_encoded front.header.flags ≡ false → ReadsBehind file new (Ok front)
         → AnswersUnsummed (Some file) (Ok (with_sum front sum))
     any_plain front sum right placed encoded read = (
       record { header = front.header; items = read.1.0 },
       at_limit file limit ∙ (found front read.0 (Ok read.1.0) read.1.1 ∙ rw encoded refl),
-      (refl, read.1.1, record { placed = record { within = placed.within; limit = placed.limit; counted = placed.counted }; size = read.0.3; sum = right }),
+      (
+        refl,
+        read.1.1,
+        record {
+          placed =
+              record { within = placed.within; limit = placed.limit; counted = placed.counted };
+          size = read.0.3;
+          sum =
+              right;
+        },
+      ),
     )
 
 -- the answer is needed at a file that is told alone
-pub any_answer : (view : Option View) (name : List ℕ) (size : ℕ) (result : Result Front FileFault) → size ≤ 1073741824 → Opens view name (Ok size)
-    → ((file : List ℕ) → bytes_in view name ≡ Some file → size ≡ length file → length file ≤ 1073741824 → AnswersUnsummed (Some file) result)
+pub any_answer : (view : Option View) (name : List ℕ) (size : ℕ) (result : Result Front FileFault) → size ≤ 1073741824
+    → Opens view name (Ok size)
+    → ((file : List ℕ) → bytes_in view name ≡ Some file → size ≡ length file → length file ≤ 1073741824
+    → AnswersUnsummed (Some file) result)
     → IfSome view (λ v. AnswersUnsummed (file_in v name) result)
 any_answer None name size result limit opens answers = tt
 any_answer (Some view) name size result limit opens answers =
-    subst (λ o. AnswersUnsummed o result) (sym opens.1) (answers opens.0 opens.1 opens.2 (subst (λ n. n ≤ 1073741824) opens.2 limit))
+    subst (λ o. AnswersUnsummed o result) (sym opens.1) (answers opens.0 opens.1 opens.2
+    (subst (λ n. n ≤ 1073741824) opens.2 limit))
 
 -- the sum line that was read, and what holds where the reader stands at the end of the file
-pub any_judged : (o p q : Option (List ℕ)) (file name : List ℕ) (size : ℕ) (begun now last : ReaderState) (n : ℕ) (Holds : List ℕ → Type 0) → o ≡ Some file → p ≡ Some file → q ≡ Some file → begun ≡ holding name [] 0 size 0 → size ≡ length file
-    → SumLine o begun now (Ok n) → now.place ≡ 8 → Stays p now last → ((f : List ℕ) → q ≡ Some f → 8 ≤ length f → StandsIn last f → Holds f) → TakesSum file now (Ok n) × Holds file
+pub any_judged : (o p q : Option (List ℕ)) (file name : List ℕ) (size : ℕ) (begun now last : ReaderState) (n : ℕ)
+    (Holds : List ℕ → Type 0) → o ≡ Some file → p ≡ Some file → q ≡ Some file → begun ≡ holding name [] 0 size 0
+    → size ≡ length file
+    → SumLine o begun now (Ok n) → now.place ≡ 8 → Stays p now last → ((f : List ℕ) → q ≡ Some f → 8 ≤ length f
+    → StandsIn last f → Holds f) → TakesSum file now (Ok n) × Holds file
 any_judged o p q file name size begun now last n Holds o_is p_is q_is fresh long line place_is stays holds =
     let takes = sum_taken o file name size begun now (Ok n) o_is fresh long line in
     (takes, holds file q_is (omega (arith, place_is, takes.0.within)) (stays file p_is takes.0))

@@ -11,7 +11,8 @@ use Rattle.sccs_body.specs.ToCome.{IsFrontFor}
 -- the front is that of the file, with the sum that is right
 abbrev pub ShowsUnsummed : Option (List ℕ) → Parsed → Front → Type 0
 ShowsUnsummed None parsed front = ⊥
-ShowsUnsummed (Some file) parsed front = (front.header ≡ parsed.header) × (items_of file front ≡ Ok parsed.items) × IsFrontFor file front
+ShowsUnsummed (Some file) parsed front = (front.header ≡ parsed.header) × (items_of file front ≡ Ok parsed.items)
+    × IsFrontFor file front
 
 -- the front of a whole file, or its refusal; no file and too long a file come first
 abbrev pub AnswersUnsummed : Option (List ℕ) → Result Front FileFault → Type 0

@@ -15,7 +15,8 @@ use Rattle.sccs_table.specs.declared.fronts.Front.{Front}
 
 -- what the body of a front's file has, from its first line on
 abbrev pub items_of : List ℕ → Front → Result (List Item) ℕ
-items_of file front = items_from (live_serials front.header.records) front.body_line [] (cut (drop front.body_from file)).lines (cut (drop front.body_from file)).tail
+items_of file front = items_from (live_serials front.header.records) front.body_line []
+    (cut (drop front.body_from file)).lines (cut (drop front.body_from file)).tail
 
 -- the items of a whole body, or the number of the first line at which no item may stand
 abbrev pub ChecksFound : Result (List Item) ℕ → Result (Unit {0}) FileFault → Type 0
@@ -44,7 +45,8 @@ ChecksItems (Some file) front result = front.size ≡ length file → ChecksFile
 -- the header is that of the whole file, and the front that of its bytes
 abbrev pub ShowsFile : Option (List ℕ) → Parsed → Front → Type 0
 ShowsFile None parsed front = ⊥
-ShowsFile (Some file) parsed front = (front.header ≡ parsed.header) × ((read : ParsedFront) × (checked_front file ≡ Ok read) × IsFrontOf file read front)
+ShowsFile (Some file) parsed front = (front.header ≡ parsed.header)
+    × ((read : ParsedFront) × (checked_front file ≡ Ok read) × IsFrontOf file read front)
 
 -- the front of a whole file, or its refusal; no file and too long a file come first
 abbrev pub AnswersFile : Option (List ℕ) → Result Front FileFault → Type 0

@@ -27,11 +27,13 @@ texts_behind (line ∷ lines) before = texts_behind lines (Text line ∷ before)
 
 -- the line is an item that may stand, and the state is that behind it; or it is none
 abbrev pub ReadsItemLine : List ℕ → List Item → BodyState → List ℕ → Result (Option Item) Memory → Type 0
-ReadsItemLine live before new line (Ok (Some item)) = (item_at live before line ≡ Some item) × (may_stand live before item ≡ true) × Knows live (item ∷ before) new
+ReadsItemLine live before new line (Ok (Some item)) = (item_at live before line ≡ Some item)
+    × (may_stand live before item ≡ true) × Knows live (item ∷ before) new
 ReadsItemLine live before new line (Ok None) = item_at live before line ≡ None
 ReadsItemLine live before new line (Err memory) = Unit {0}
 
--- whatever the disk tells: an item that is given may stand, and the reader then stands behind it; at None the body is whole
+-- whatever the disk tells: an item that is given may stand, and the reader then stands behind it; at None the body is
+-- whole
 abbrev pub GoesBehind : List ℕ → List Item → BodyPlace → Result (Option Item) FileFault → Type 0
 GoesBehind live before new (Ok (Some item)) = (may_stand live before item ≡ true) × HasBehind live (item ∷ before) new
 GoesBehind live before new (Ok None) = is_over before ≡ true
@@ -49,20 +51,29 @@ GoesOrStays live before new None = IsBehind live before new
 abbrev pub GivesItem : List ℕ → List Item → List ℕ → BodyPlace → BodyPlace → Result (Option Item) FileFault → Type 0
 GivesItem live before file old new (Ok (Some item)) =
     StandsIn new.lines file
-    × ((line : List ℕ) × (left old.lines file ≡ record { lines = line ∷ (left new.lines file).lines; tail = (left new.lines file).tail }) × (item_at live before line ≡ Some item))
-GivesItem live before file old new (Ok None) = items_from live (next_line_number old file) before (left old.lines file).lines (left old.lines file).tail ≡ Ok []
+    × ((line : List ℕ) × (left old.lines file ≡ record {
+      lines = line ∷ (left new.lines file).lines;
+      tail =
+          (left new.lines file).tail;
+    }) × (item_at live before line ≡ Some item))
+GivesItem live before file old new (Ok None) = items_from live (next_line_number old file) before
+    (left old.lines file).lines (left old.lines file).tail ≡ Ok []
 GivesItem live before file old new (Err (BadFormat line)) =
-    (line ≡ next_line_number old file) × (items_from live (next_line_number old file) before (left old.lines file).lines (left old.lines file).tail ≡ Err line)
+    (line ≡ next_line_number old file) × (items_from live (next_line_number old file) before (left old.lines file).lines
+    (left old.lines file).tail ≡ Err line)
 GivesItem live before file old new (Err Failed) = Unit {0}
 GivesItem live before file old new (Err fault.Memory) = Unit {0}
 GivesItem live before file old new (Err _) = ⊥
 
 -- the same of a told file in which the reader stands
-abbrev pub GivesBodyItem : Option (List ℕ) → List ℕ → List Item → BodyPlace → BodyPlace → Result (Option Item) FileFault → Type 0
+abbrev pub GivesBodyItem : Option (List ℕ) → List ℕ → List Item → BodyPlace → BodyPlace → Result (Option Item) FileFault
+    → Type 0
 GivesBodyItem None live before old new result = Unit {0}
-GivesBodyItem (Some file) live before old new result = StandsIn old.lines file → GivesItem live before file old new result
+GivesBodyItem (Some file) live before old new result = StandsIn old.lines file
+    → GivesItem live before file old new result
 
--- what a line of that number is at which no item may stand: its fault, or that of a disk that failed while it was looked for
+-- what a line of that number is at which no item may stand: its fault, or that of a disk that failed while it was
+-- looked for
 abbrev pub IsFormatAt : ℕ → FileFault → Type 0
 IsFormatAt number (BadFormat line) = line ≡ number
 IsFormatAt number Failed = Unit {0}

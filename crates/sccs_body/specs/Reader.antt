@@ -4,7 +4,8 @@ use Rattle.sccs_table.specs.ReaderState.{ReaderState}
 use Rattle.sccs_table.specs.Runs.{lf_count}
 use Rattle.sccs_body.specs.declared.body_states.BodyState.{BodyState}
 
--- Where the next line stands in the file, what the items so far leave open, and the number and the place of the body's first line.
+-- Where the next line stands in the file, what the items so far leave open, and the number and the place of the body's
+-- first line.
 pub record BodyPlace : Type 0 where
   pub lines : ReaderState
   pub state : BodyState

@@ -27,7 +27,8 @@ fn check_items<D: Disk>(disk: &mut D, body: &mut BodyReader) -> Result<(), FileF
     ensures frame { ReadsOn D.told D.faults disk.old disk.new body.old.lines body.new.lines result }
     ensures first { IsFirst result }
     ensures stays { Stays (bytes_in (seen (D.told disk.old)) body.old.lines.name) body.old.lines body.new.lines }
-    ensures told { (live : List ℕ) → HasBehind live [] body.old → ChecksRest (bytes_in (seen (D.told disk.old)) body.old.lines.name) live body.old result }
+    ensures told { (live : List ℕ) → HasBehind live [] body.old
+        → ChecksRest (bytes_in (seen (D.told disk.old)) body.old.lines.name) live body.old result }
 {
     'items: loop {
         let count = body.texts().len();
@@ -62,7 +63,8 @@ fn read_front<D: Disk>(
     ensures placed { IfOk result.0 IsPlaced }
     ensures rules { IfOk result.0 (λ front. KeepsRules front.header) }
     ensures spelled { IfOk result.0 (λ front. IsSpelled front.header) }
-    ensures told { IfSome (bytes_in (seen (D.told disk.old)) lines.name) (λ file. StandsIn lines file → size ≡ length file → ReadsBehind file lines result.0) }
+    ensures told { IfSome (bytes_in (seen (D.told disk.old)) lines.name) (λ file. StandsIn lines file
+        → size ≡ length file → ReadsBehind file lines result.0) }
 {
     let mut lines = lines;
     let (header, body_line) = match read_lines(alloc, disk, &mut lines) {
@@ -119,7 +121,8 @@ fn plain_sum<D: Disk>(disk: &mut D, lines: &mut LineReader, stored: u32) -> Resu
     requires { 8 ≤ lines.old.limit }
     ensures frame { ReadsDisk D.told D.faults disk.old disk.new result }
     ensures first { IsFirst result }
-    ensures told { (file : List ℕ) → bytes_in (seen (D.told disk.old)) lines.old.name ≡ Some file → 8 ≤ length file → StandsIn lines.old file
+    ensures told { (file : List ℕ) → bytes_in (seen (D.told disk.old)) lines.old.name ≡ Some file → 8 ≤ length file
+        → StandsIn lines.old file
         → IsOuter result × IfOk result (λ sum. IsPlainSumOf sum (behind_sum file)) }
 {
     match check_sum(disk, lines, stored) {

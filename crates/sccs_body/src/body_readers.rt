@@ -1,4 +1,5 @@
-ghost use Rattle.std.specs.Prelude.{◌≡◌, ◌≢◌, ◌&&◌, ℕ, ◌+◌, ◌<◌, ◌≤◌, List, [], ◌∷◌, length, max, min, take, drop, true, Option, None, Some, IfOk, IfSome, OnOk, Ok, Err};
+ghost use Rattle.std.specs.Prelude.{◌≡◌, ◌≢◌, ◌&&◌, ℕ, ◌+◌, ◌<◌, ◌≤◌, List, [], ◌∷◌, length, max, min, take, drop};
+ghost use Rattle.std.specs.Prelude.{true, Option, None, Some, IfOk, IfSome, OnOk, Ok, Err};
 ghost use Rattle.sccs_base.specs.Cut.{HasNoLf, cut};
 ghost use Rattle.sccs_disk.specs.Told.{seen};
 ghost use Rattle.sccs_tokens.specs.Items.{IsWrittenItem};
@@ -10,7 +11,8 @@ ghost use Rattle.sccs_table.specs.FrontFile.{IsFirst, ReadsBytes, ReadsOn};
 ghost use Rattle.sccs_table.specs.Runs.{HasNoRun, IsRun, PassesRun, lf_count};
 ghost use Rattle.sccs_table.specs.ReaderState.{StandsIn, Stays, bytes_in};
 ghost use Rattle.sccs_base.specs.Stream.{Rose};
-ghost use Rattle.sccs_body.specs.ItemsRead.{GivesBodyItem, GoesBehind, HasBehind, IsFormat, IsFormatAt, ReadsItemLine, texts_behind};
+ghost use Rattle.sccs_body.specs.ItemsRead.{GivesBodyItem, GoesBehind, HasBehind, IsFormat, IsFormatAt, ReadsItemLine};
+ghost use Rattle.sccs_body.specs.ItemsRead.{texts_behind};
 ghost use Rattle.sccs_body.specs.Reader.{KeepsBody, number_of_line};
 
 use crate::body_states::BodyState;
@@ -51,7 +53,8 @@ impl Model for BodyReader {
 #[inline(always)]
 fn goes_on(state: &mut BodyState, item: &Item) -> Result<bool, Memory>
     ensures goes { (live : List ℕ) (before : List Item) → Knows live before state.old
-        → IfOk result (λ stands. (may_stand live before item.now ≡ stands) × (stands ≡ true → Knows live (item.now ∷ before) state.new)) }
+        → IfOk result (λ stands. (may_stand live before item.now ≡ stands)
+        × (stands ≡ true → Knows live (item.now ∷ before) state.new)) }
     ensures kept { (live : List ℕ) (before : List Item) → Knows live before state.old
         → result ≢ Ok true → Knows live before state.new }
 {
@@ -85,7 +88,8 @@ fn goes_on(state: &mut BodyState, item: &Item) -> Result<bool, Memory>
 #[inline(never)]
 fn next_item(state: &mut BodyState, line: Vec<u8>) -> Result<Option<Item>, Memory>
     requires { HasNoLf line.items }
-    ensures { (live : List ℕ) (before : List Item) → Knows live before state.old → ReadsItemLine live before state.new line.items result }
+    ensures { (live : List ℕ) (before : List Item) → Knows live before state.old
+        → ReadsItemLine live before state.new line.items result }
 {
     let Some(item) = read_item(line) else {
         return Ok(None);
@@ -177,7 +181,8 @@ impl BodyReader {
         ensures body { KeepsBody self.old self.new }
         ensures onward { self.old.lines.place + length self.old.lines.held ≤ self.new.lines.place }
         ensures bound { self.new.lines.place ≤ max to (self.old.lines.place + length self.old.lines.held) }
-        ensures told { OnOk result ((file : List ℕ) → bytes_in (seen (D.told disk.old)) self.old.lines.name ≡ Some file → StandsIn self.old.lines file → min to (length file) ≤ self.new.lines.place) }
+        ensures told { OnOk result ((file : List ℕ) → bytes_in (seen (D.told disk.old)) self.old.lines.name ≡ Some file
+            → StandsIn self.old.lines file → min to (length file) ≤ self.new.lines.place) }
     {
         self.lines.skip_to(disk, to)
     }
@@ -205,7 +210,8 @@ impl BodyReader {
         ensures later { D.faults disk.old ≤ D.faults disk.new }
         ensures cause { result ≡ FileFault.Failed → Rose (D.faults disk.old) (D.faults disk.new) }
         ensures kind { IsFormat result }
-        ensures told { IfSome (bytes_in (seen (D.told disk.old)) self.now.lines.name) (λ file. IsFormatAt (number_of_line self.now.first self.now.from file place) result) }
+        ensures told { IfSome (bytes_in (seen (D.told disk.old)) self.now.lines.name)
+            (λ file. IsFormatAt (number_of_line self.now.first self.now.from file place) result) }
     {
         match self.lines.lines_between(disk, self.from, place) {
             Ok(count) => FileFault::BadFormat(self.first + count),
@@ -258,9 +264,11 @@ impl BodyReader {
         ensures stays { Stays (bytes_in (seen (D.told disk.old)) self.old.lines.name) self.old.lines self.new.lines }
         ensures onward { self.old.lines.place ≤ self.new.lines.place }
         ensures further { IfOk result (λ o. IfSome o (λ _. self.old.lines.place < self.new.lines.place)) }
-        ensures goes { (live : List ℕ) (before : List Item) → HasBehind live before self.old → GoesBehind live before self.new result }
+        ensures goes { (live : List ℕ) (before : List Item) → HasBehind live before self.old
+            → GoesBehind live before self.new result }
         ensures told { (live : List ℕ) (before : List Item) → HasBehind live before self.old
-            → GivesBodyItem (bytes_in (seen (D.told disk.old)) self.old.lines.name) live before self.old self.new result }
+            → GivesBodyItem (bytes_in (seen (D.told disk.old)) self.old.lines.name) live before self.old self.new
+            result }
     {
         let place = self.lines.place();
         let mut line = Vec::new(self.alloc);
@@ -296,9 +304,11 @@ impl BodyReader {
         ensures stays { (o : Option (List ℕ)) → Stays o self.old.lines self.new.lines }
         ensures ahead { self.new.lines.place + length self.new.lines.held ≤ self.new.lines.limit }
         ensures further { self.old.lines.place < self.new.lines.place }
-        ensures goes { (live : List ℕ) (before : List Item) → HasBehind live before self.old → GoesBehind live before self.new result }
+        ensures goes { (live : List ℕ) (before : List Item) → HasBehind live before self.old
+            → GoesBehind live before self.new result }
         ensures told { (live : List ℕ) (before : List Item) → HasBehind live before self.old
-            → GivesBodyItem (bytes_in (seen (D.told disk.old)) self.old.lines.name) live before self.old self.new result }
+            → GivesBodyItem (bytes_in (seen (D.told disk.old)) self.old.lines.name) live before self.old self.new
+            result }
     {
         let place = self.lines.place();
         let stands = goes_on(&mut self.state, &item);
@@ -321,7 +331,8 @@ impl BodyReader {
         ensures further { IfSome result (λ _. self.old.lines.place < self.new.lines.place) }
         ensures none { result ≡ None → self.new.lines ≡ self.old.lines }
         ensures body { KeepsBody self.old self.new }
-        ensures kept { (live : List ℕ) (before : List Item) → HasBehind live before self.old → result ≡ None → HasBehind live before self.new }
+        ensures kept { (live : List ℕ) (before : List Item) → HasBehind live before self.old → result ≡ None
+            → HasBehind live before self.new }
         ensures goes { (live : List ℕ) (before : List Item) → HasBehind live before self.old
             → IfSome result (λ item. GoesBehind live before self.new (Ok (Some item))) }
         ensures told { (o : Option (List ℕ)) (live : List ℕ) (before : List Item) → HasBehind live before self.old
@@ -348,7 +359,8 @@ impl BodyReader {
         ensures place { self.new.lines.place ≡ self.old.lines.place }
         ensures state { self.new.state ≡ self.old.state }
         ensures body { KeepsBody self.old self.new }
-        ensures more { IfOk result (λ more. more ≡ true → (lf_count self.old.lines.held ≡ 0) × (0 < lf_count self.new.lines.held)) }
+        ensures more { IfOk result (λ more. more ≡ true → (lf_count self.old.lines.held ≡ 0)
+            × (0 < lf_count self.new.lines.held)) }
     {
         self.lines.read_on(disk)
     }
@@ -372,9 +384,11 @@ impl BodyReader {
         ensures stays { Stays (bytes_in (seen (D.told disk.old)) self.old.lines.name) self.old.lines self.new.lines }
         ensures onward { self.old.lines.place ≤ self.new.lines.place }
         ensures further { IfOk result (λ o. IfSome o (λ _. self.old.lines.place < self.new.lines.place)) }
-        ensures goes { (live : List ℕ) (before : List Item) → HasBehind live before self.old → GoesBehind live before self.new result }
+        ensures goes { (live : List ℕ) (before : List Item) → HasBehind live before self.old
+            → GoesBehind live before self.new result }
         ensures told { (live : List ℕ) (before : List Item) → HasBehind live before self.old
-            → GivesBodyItem (bytes_in (seen (D.told disk.old)) self.old.lines.name) live before self.old self.new result }
+            → GivesBodyItem (bytes_in (seen (D.told disk.old)) self.old.lines.name) live before self.old self.new
+            result }
     {
         match written_item(self.lines.held()) {
             Some((item, count)) => self.pass_item(disk, item, count),

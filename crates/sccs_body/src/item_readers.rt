@@ -1,4 +1,5 @@
-ghost use Rattle.std.specs.Prelude.{◌≡◌, ℕ, ◌<◌, ◌≤◌, List, [], length, map, Some, Option, Result, true, IfOk, IfSome, OnOk};
+ghost use Rattle.std.specs.Prelude.{◌≡◌, ℕ, ◌<◌, ◌≤◌, List, [], length, map, Some, Option, Result, true, IfOk, IfSome};
+ghost use Rattle.std.specs.Prelude.{OnOk};
 ghost use Rattle.sccs_base.specs.Cut.{cut};
 ghost use Rattle.sccs_disk.specs.Told.{seen};
 ghost use Rattle.sccs_history.specs.Applied.{live_serials};
@@ -10,7 +11,8 @@ ghost use Rattle.sccs_table.specs.ReaderState.{bytes_in};
 ghost use Rattle.sccs_body.specs.BodyFile.{items_of};
 ghost use Rattle.sccs_body.specs.ItemsRead.{MovesToItem, GoesOrStays, IsBehind, texts_behind};
 ghost use Rattle.sccs_body.specs.Reader.{at_hand, behind_hand, bytes_left, name_read, steps_left};
-ghost use Rattle.sccs_body.specs.ToCome.{AgreesAtEnd, BeginsReading, HasChanged, ComesOrStays, EndsReading, GivesNext, IsFrontFor, MayPass, ReadsNextItem, TextsCome, ToCome, onto};
+ghost use Rattle.sccs_body.specs.ToCome.{AgreesAtEnd, BeginsReading, HasChanged, ComesOrStays, EndsReading, GivesNext};
+ghost use Rattle.sccs_body.specs.ToCome.{IsFrontFor, MayPass, ReadsNextItem, TextsCome, ToCome, onto};
 
 use crate::body_readers::BodyReader;
 use crate::body_states::BodyState;
@@ -70,7 +72,8 @@ impl ItemReader {
     pub fn texts(&self) -> &[u8]
         ensures may { MayPass self.now (length result.now) }
         ensures value { at_hand self.now (length result.now) ≡ result.now }
-        ensures first { (file live : List ℕ) (before : List Item) (found : Result (List Item) ℕ) → ToCome file live before found self.now
+        ensures first { (file live : List ℕ) (before : List Item) (found : Result (List Item) ℕ)
+            → ToCome file live before found self.now
             → (rest : Result (List Item) ℕ) × (found ≡ onto (map items.Text (cut result.now).lines) rest) }
         ensures longest { (live : List ℕ) (before : List Item) (text : List ℕ) → IsBehind live before self.now
             → may_stand live before (items.Text text) ≡ true → HasNoRun (behind_hand self.now (length result.now)) }
@@ -89,7 +92,8 @@ impl ItemReader {
         ensures steps { steps_left self.new ≤ steps_left self.old }
         ensures behind { (live : List ℕ) (before : List Item) → IsBehind live before self.old
             → IsBehind live (texts_behind (cut (at_hand self.old count)).lines before) self.new }
-        ensures told { (file live : List ℕ) (before : List Item) (found : Result (List Item) ℕ) → ToCome file live before found self.old
+        ensures told { (file live : List ℕ) (before : List Item) (found : Result (List Item) ℕ)
+            → ToCome file live before found self.old
             → TextsCome file live before found (at_hand self.old count) self.new }
     {
         self.body.pass(count);
@@ -114,8 +118,10 @@ impl ItemReader {
         ensures left { bytes_left self.new ≤ bytes_left self.old }
         ensures steps { steps_left self.new ≤ steps_left self.old }
         ensures further { IfSome result (λ _. steps_left self.new < steps_left self.old) }
-        ensures goes { (live : List ℕ) (before : List Item) → IsBehind live before self.old → GoesOrStays live before self.new result }
-        ensures told { (file live : List ℕ) (before : List Item) (found : Result (List Item) ℕ) → ToCome file live before found self.old
+        ensures goes { (live : List ℕ) (before : List Item) → IsBehind live before self.old
+            → GoesOrStays live before self.new result }
+        ensures told { (file live : List ℕ) (before : List Item) (found : Result (List Item) ℕ)
+            → ToCome file live before found self.old
             → ComesOrStays file live before found self.new result }
     {
         if self.body.place() < self.body.body_from() {
@@ -135,8 +141,10 @@ impl ItemReader {
         ensures outer { IsOuter result }
         ensures left { bytes_left self.new ≡ bytes_left self.old }
         ensures further { IfOk result (λ more. more ≡ true → steps_left self.new < steps_left self.old) }
-        ensures goes { (live : List ℕ) (before : List Item) → IsBehind live before self.old → IsBehind live before self.new }
-        ensures told { (file live : List ℕ) (before : List Item) (found : Result (List Item) ℕ) → bytes_in (seen (D.told disk.old)) (name_read self.old) ≡ Some file
+        ensures goes { (live : List ℕ) (before : List Item) → IsBehind live before self.old
+            → IsBehind live before self.new }
+        ensures told { (file live : List ℕ) (before : List Item) (found : Result (List Item) ℕ)
+            → bytes_in (seen (D.told disk.old)) (name_read self.old) ≡ Some file
             → ToCome file live before found self.old → ToCome file live before found self.new }
     {
         if self.body.place() < self.body.body_from() {
@@ -220,8 +228,10 @@ impl ItemReader {
         ensures further { IfOk result (λ o. IfSome o (λ _. bytes_left self.new < bytes_left self.old)) }
         ensures changed { HasChanged self.old result }
         ensures agrees { AgreesAtEnd self.new result }
-        ensures goes { (live : List ℕ) (before : List Item) → IsBehind live before self.old → MovesToItem live before self.new result }
-        ensures told { (file live : List ℕ) (before : List Item) (found : Result (List Item) ℕ) → bytes_in (seen (D.told disk.old)) (name_read self.old) ≡ Some file
+        ensures goes { (live : List ℕ) (before : List Item) → IsBehind live before self.old
+            → MovesToItem live before self.new result }
+        ensures told { (file live : List ℕ) (before : List Item) (found : Result (List Item) ℕ)
+            → bytes_in (seen (D.told disk.old)) (name_read self.old) ≡ Some file
             → ToCome file live before found self.old → GivesNext file live before found self.new result }
     {
         match self.next_read(disk) {

@@ -6,5 +6,6 @@ ghost use Rattle.sccs_grammar.specs.AnySum.{unsummed_file};
 /// Reading that passes over the stored sum answers as reading that checks it, but where that answers that the
 /// sum is wrong.
 pub fn sums_are_passed_over()
-    ensures { (bytes : List ℕ) → (file_of bytes ≡ unsummed_file bytes) ⊎ ((stored plain : ℕ) × (file_of bytes ≡ Err (BadSum stored plain))) }
+    ensures { (bytes : List ℕ) → (file_of bytes ≡ unsummed_file bytes)
+        ⊎ ((stored plain : ℕ) × (file_of bytes ≡ Err (BadSum stored plain))) }
 {}

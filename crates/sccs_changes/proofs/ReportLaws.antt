@@ -9,10 +9,14 @@ use Rattle.sccs_changes.specs.Changes.{plan_of}
 use Rattle.sccs_changes.specs.Ends.{FinishesCommit, Reports}
 use Rattle.sccs_changes.specs.declared.prepared.Prepared.{Prepared}
 
-pub reported : (r : Result (Unit {0}) StepFault) (n : List ℕ) (p : Prepared) (a b : Option View) (out out2 err err2 : Option (List ℕ)) → Becomes (committed n (plan_of p)) a b → Reports r p (world b out err) (world b out2 err2)
+pub reported : (r : Result (Unit {0}) StepFault) (n : List ℕ) (p : Prepared) (a b : Option View)
+    (out out2 err err2 : Option (List ℕ)) → Becomes (committed n (plan_of p)) a b → Reports r p (world b out err)
+    (world b out2 err2)
     → FinishesCommit r n p (world a out err) (world b out2 err2)
-reported (Ok done) n p a b out out2 err err2 done_so reports = (done_so, record { out = reports.out; err = reports.err })
-reported (Err WriteFault) n p a b out out2 err err2 done_so reports = (done_so, record { out = reports.out; err = reports.err })
+reported (Ok done) n p a b out out2 err err2 done_so reports =
+    (done_so, record { out = reports.out; err = reports.err })
+reported (Err WriteFault) n p a b out out2 err err2 done_so reports =
+    (done_so, record { out = reports.out; err = reports.err })
 reported (Err (Refused refusal)) n p a b out out2 err err2 done_so reports = absurd reports
 reported (Err Memory) n p a b out out2 err err2 done_so reports = absurd reports
 reported (Err ReadFault) n p a b out out2 err err2 done_so reports = absurd reports

@@ -1,5 +1,6 @@
 -- A change of the files of a name: what it prepares between its lock and its commit, and the action that it is.
-use Rattle.std.specs.Prelude.{◌≡◌, ◌⊎◌, ◌||◌, ℕ, Bool, true, false, List, [], map, drop, Option, None, Some, Result, Ok, Err, IfSome, is_none}
+use Rattle.std.specs.Prelude.{◌≡◌, ◌⊎◌, ◌||◌, ℕ, Bool, true, false, List, [], map, drop, Option, None, Some, Result, Ok}
+use Rattle.std.specs.Prelude.{Err, IfSome, is_none}
 use Rattle.std.specs.Result.{IfOk}
 use Rattle.std.specs.Str.{bytes_eq}
 use Rattle.sccs_base.specs.Name.{is_sfile_name, p_file, q_file, x_file, y_file, z_file}
@@ -47,7 +48,18 @@ locking_step outcome n i named f = do
 
 -- the change as an action
 abbrev pub locking : Changing → Action
-locking x = record { fits = is_sfile_name; step = locking_step x.outcome; named = x.named; takes = x.takes; reads = false; locks = true; silent = x.silent; rule = Greatest; could = x.could }
+locking x = record {
+  fits = is_sfile_name;
+  step = locking_step x.outcome;
+  named = x.named;
+  takes = x.takes;
+  reads =
+      false;
+  locks = true;
+  silent = x.silent;
+  rule = Greatest;
+  could = x.could;
+}
 
 -- the view as it was before the name was locked
 abbrev pub unlocked : List ℕ → View → View
@@ -68,7 +80,8 @@ pub record AreTakenOrGone (n : List ℕ) (c : Plan) (u v : View) : Type 0 where
   pub q : IsTakenOrGone c.p (u (q_file n)) (v (q_file n))
   pub y : IsTakenOrGone c.g (u (y_file n)) (v (y_file n))
 
--- The new files are prepared, the text before the commit is written, at most working files have changed, and the l-file where it is
+-- The new files are prepared, the text before the commit is written, at most working files have changed, and the l-file
+-- where it is
 -- new before the commit; working files that the commit doesn't take are gone, or as they were.
 pub record IsPreparedBy (first : Bool) (n : List ℕ) (p : Prepared) (o : Outcome) (w w2 : World) : Type 0 where
   pub effect : StepEffect
@@ -116,7 +129,8 @@ Drafts true n old new = KeepsOthers (λ k. bytes_eq (l_file n) k || is_working n
 -- the same of a change, on a disk that tells its files, the name being locked
 abbrev pub PreparesChange : Changing → Result Prepared StepFault → List ℕ → Option (List ℕ) → World → World → Type 0
 PreparesChange x r n left w w2 =
-    IfSome w.view (λ v. (i : List ℕ) → IsHeard x.takes left i → PreparesBy x.early r n (x.outcome n i (map (unlocked n v) (x.named n)) (look (unlocked n v) n)) w w2)
+    IfSome w.view (λ v. (i : List ℕ) → IsHeard x.takes left i
+    → PreparesBy x.early r n (x.outcome n i (map (unlocked n v) (x.named n)) (look (unlocked n v) n)) w w2)
 
 -- what a commit needs is there, where a view is told
 pub record IsReady (n : List ℕ) (p : Prepared) (told : Told) : Type 0 where

@@ -34,4 +34,5 @@ FinishesCommit (Err fault) n p w w2 = ⊥
 -- the working files and the z-file are gone, and the answer is the fault; or the disk failed
 abbrev pub GivesUp : Result (Unit {0}) StepFault → StepFault → List ℕ → World → World → Type 0
 GivesUp r fault n w w2 =
-    ((r ≡ Err fault) × Becomes (abandoned n) w.view w2.view) ⊎ ((r ≡ Err DiskFault) × Moves (is_left n) (λ v. v) w.view w2.view)
+    ((r ≡ Err fault) × Becomes (abandoned n) w.view w2.view) ⊎ ((r ≡ Err DiskFault) × Moves (is_left n)
+    (λ v. v) w.view w2.view)

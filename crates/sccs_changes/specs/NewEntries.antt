@@ -1,5 +1,6 @@
 -- A p-file that is to have these entries, and what else a step makes of the files of its name.
-use Rattle.std.specs.Prelude.{◌≡◌, ℕ, ◌-◌, Bool, false, List, [], ◌∷◌, drop, slice_get, Option, None, Some, IfSome, option_map, unwrap_or, Result, Ok, Err, if◌then◌else◌}
+use Rattle.std.specs.Prelude.{◌≡◌, ℕ, ◌-◌, Bool, false, List, [], ◌∷◌, drop, slice_get, Option, None, Some, IfSome}
+use Rattle.std.specs.Prelude.{option_map, unwrap_or, Result, Ok, Err, if◌then◌else◌}
 use Rattle.sccs_base.specs.Name.{p_file, q_file, y_file}
 use Rattle.sccs_disk.specs.Files.{Content, View}
 use Rattle.sccs_disk.specs.Told.{Told, seen}
@@ -28,7 +29,13 @@ use Rattle.sccs_changes.specs.declared.prepared.Prepared.{Prepared}
 
 -- the p-file has these entries, the g-file is this, and so much is reported on out
 abbrev pub with_entries : Files → List Edit → Option Content → List ℕ → StepEffect
-with_entries f edits g report = record { new = Some (record { s = f.s; p = pfile_of edits; z = None; g = g; l = f.l }); text = []; out = report; err = []; status = 0 }
+with_entries f edits g report = record {
+  new = Some (record { s = f.s; p = pfile_of edits; z = None; g = g; l = f.l });
+  text = [];
+  out = report;
+  err = [];
+  status = 0;
+}
 
 -- the numbers of the checks on the entry that is meant
 abbrev pub choice_checks : List ℕ
@@ -48,10 +55,12 @@ made_text edits number = unwrap_or (option_map (λ (e : Edit). sid_text e.made) 
 abbrev pub kept_g : Bool → Option Content → Option Content
 kept_g keep g = if keep then g else None
 
--- What becomes of the p-file is prepared: a commit makes it the p-file of these entries, and takes the q-file, unless there is
+-- What becomes of the p-file is prepared: a commit makes it the p-file of these entries, and takes the q-file, unless
+-- there is
 -- none, or it is as it was.
 pub record PreparesEntries (n : List ℕ) (edits : List Edit) (new : NewFile) (before told : Told) : Type 0 where
-  pub chosen_is : IfSome (seen told) (λ (v : View). (old : Option Content) → chosen new (v (q_file n)) old ≡ pfile_of edits)
+  pub chosen_is : IfSome (seen told) (λ (v : View). (old : Option Content) → chosen new (v (q_file n)) old
+      ≡ pfile_of edits)
   pub needs : (edits ≡ [] → IsThere (p_file n) before) → Needs new (q_file n) (p_file n) told
   pub taken : IfSome (seen before) (λ u. IfSome (seen told) (λ v. IsTakenOrGone new (u (q_file n)) (v (q_file n))))
 
@@ -69,7 +78,8 @@ OnlyGoes Remove = Unit {0}
 
 -- A commit leaves the g-file, or removes it.
 pub record LeavesG (n : List ℕ) (keep : Bool) (new : NewFile) (told : Told) : Type 0 where
-  pub chosen_is : IfSome (seen told) (λ (v : View). (y : Option Content) → chosen new y (v (drop 2 n)) ≡ kept_g keep (v (drop 2 n)))
+  pub chosen_is : IfSome (seen told) (λ (v : View). (y : Option Content) → chosen new y (v (drop 2 n)) ≡ kept_g keep
+      (v (drop 2 n)))
   pub needs : Needs new (y_file n) (drop 2 n) told
 
 -- What a change prepares that has these entries: the s-file stays, and this is reported.

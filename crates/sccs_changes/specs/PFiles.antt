@@ -1,5 +1,6 @@
 -- The p-file of a name, read whole. One that isn't there has no entries.
-use Rattle.std.specs.Prelude.{◌≡◌, ◌≢◌, ℕ, ◌≤◌, nat_le, Bool, true, List, [], ◌∷◌, length, Option, None, Some, Result, Ok, Err}
+use Rattle.std.specs.Prelude.{◌≡◌, ◌≢◌, ℕ, ◌≤◌, nat_le, Bool, true, List, [], ◌∷◌, length, Option, None, Some, Result}
+use Rattle.std.specs.Prelude.{Ok, Err}
 use Rattle.sccs_base.specs.Constants.{file_limit}
 use Rattle.sccs_base.specs.Stream.{Rose}
 use Rattle.sccs_disk.specs.Files.{Content}
@@ -52,7 +53,8 @@ PassesCheck found (Err ReadFault) = ⊥
 PassesCheck found (Err WriteFault) = ⊥
 
 -- A call of a step that only reads a disk.
-pub record OnlyReads {D T : Type 0} (told : D → Told) (faults : D → ℕ) (disk disk2 : D) (result : Result T StepFault) : Type 0 where
+pub record OnlyReads {D T : Type 0} (told : D → Told) (faults : D → ℕ) (disk disk2 : D)
+    (result : Result T StepFault) : Type 0 where
   pub same : told disk2 ≡ told disk
   pub later : faults disk ≤ faults disk2
   pub cause : result ≡ Err DiskFault → Rose (faults disk) (faults disk2)

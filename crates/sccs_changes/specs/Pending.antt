@@ -1,6 +1,8 @@
--- An s-file and its pending edits, as get -e, delta and unget find them (POSIX, each). The order of the checks is own: each
+-- An s-file and its pending edits, as get -e, delta and unget find them (POSIX, each). The order of the checks is own:
+-- each
 -- size is judged before any content.
-use Rattle.std.specs.Prelude.{◌≡◌, ℕ, ◌&&◌, List, [], ◌∷◌, Option, None, Some, is_some, option_map, Bool, true, Result, Ok, Err}
+use Rattle.std.specs.Prelude.{◌≡◌, ℕ, ◌&&◌, List, [], ◌∷◌, Option, None, Some, is_some, option_map, Bool, true, Result}
+use Rattle.std.specs.Prelude.{Ok, Err}
 use Rattle.sccs_disk.specs.Files.{Content}
 use Rattle.sccs_sid.specs.Reading.{◌>>=◌}
 use Rattle.sccs_sid.specs.Refusal.{number_of}
@@ -44,7 +46,8 @@ sfile_size_checks = number_of refusals.Missing ∷ number_of refusals.TooLong �
 abbrev pub agreement_checks : List ℕ
 agreement_checks = number_of (refusals.Disagree 0) ∷ []
 
--- What is found in an s-file and a p-file; or the first check that fails: there is no s-file, one of the two is too long, the
+-- What is found in an s-file and a p-file; or the first check that fails: there is no s-file, one of the two is too
+-- long, the
 -- s-file isn't one, a line of the p-file is no entry, or an entry doesn't agree with the table.
 unfoldable pub pending_of : Option Content → Option Content → Result Found Refusal
 pending_of s p = do
@@ -55,9 +58,11 @@ pending_of s p = do
   agreed ← agreeing (first_disagreeing parsed.header.records edits)
   Ok (record { parsed = parsed; edits = edits })
 
--- the front and the entries are those that are found, or a check fails; of want of memory and a failing disk nothing is said
+-- the front and the entries are those that are found, or a check fails; of want of memory and a failing disk nothing is
+-- said
 abbrev pub AnswersPending : Option Content → Option Content → Result Pending StepFault → Type 0
-AnswersPending s p (Ok x) = (parsed : Parsed) × ShowsFile (bytes_at s) parsed x.front × (pending_of s p ≡ Ok (record { parsed = parsed; edits = x.edits }))
+AnswersPending s p (Ok x) = (parsed : Parsed) × ShowsFile (bytes_at s) parsed x.front
+    × (pending_of s p ≡ Ok (record { parsed = parsed; edits = x.edits }))
 AnswersPending s p (Err (step.Refused refusal)) = pending_of s p ≡ Err refusal
 AnswersPending s p (Err step.Memory) = Unit {0}
 AnswersPending s p (Err step.DiskFault) = Unit {0}

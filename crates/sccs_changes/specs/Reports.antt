@@ -1,4 +1,5 @@
--- What several utilities say: the heading of a report where a command has several operands (POSIX get, STDOUT), and the warning on keywords.
+-- What several utilities say: the heading of a report where a command has several operands (POSIX get, STDOUT), and the
+-- warning on keywords.
 use Rattle.std.specs.Prelude.{ℕ, Bool, List, [], ◌∷◌, ◌++◌, codes, if◌then◌else◌}
 use Rattle.sccs_tokens.specs.Written.{ended}
 

@@ -16,7 +16,8 @@ taken None there = absurd (cc)
 taken (Some c) there = refl
 
 -- a locked name is refused
-pub taken_step : (x : Changing) (n i : List ℕ) (named : List (Option Content)) (f : Files) → IsSome f.z → locking_step x.outcome n i named f ≡ Err (Locked)
+pub taken_step : (x : Changing) (n i : List ℕ) (named : List (Option Content)) (f : Files) → IsSome f.z
+    → locking_step x.outcome n i named f ≡ Err (Locked)
 unfolding locking_step
 taken_step x n i named f there = rw (taken f.z there) refl
 

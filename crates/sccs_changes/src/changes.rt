@@ -39,7 +39,8 @@ pub trait Change {
         requires sfile { IsSFileName name.now }
         requires locked { IsThere (z_file name.now) (D.told disk.old) }
         ensures prepares { (err : Option (List ℕ)) → PreparesChange (change self.now) result name.now (I.left input.old)
-            (world (seen (D.told disk.old)) (O.given out.old) err) (world (seen (D.told disk.new)) (O.given out.new) err) }
+            (world (seen (D.told disk.old)) (O.given out.old) err) (world (seen (D.told disk.new))
+            (O.given out.new) err) }
         ensures needs { IfOk result (λ p. IsReady name.now p (D.told disk.new)) }
         ensures touches { Drafts (change self.now).early name.now (D.told disk.old) (D.told disk.new) }
         ensures firm { IfOk result (λ p. IsFirmPrepared name.now p (D.told disk.old) (D.told disk.new)) }
@@ -47,7 +48,8 @@ pub trait Change {
         ensures speaks { CouldPrepare (change self.now).could result }
         ensures silent { (change self.now).silent ≡ true → (O.given out.new ≡ O.given out.old) × IsQuiet result }
         ensures ignores { (change self.now).takes ≡ false
-            → Ignores step.ReadFault (I.left input.old) (I.left input.new) (I.faults input.old) (I.faults input.new) result }
+            → Ignores step.ReadFault (I.left input.old) (I.left input.new) (I.faults input.old) (I.faults input.new)
+            result }
         ensures causes { (err : ℕ) → StepCauses result
             (counts (I.faults input.old) (O.faults out.old) err (D.faults disk.old))
             (counts (I.faults input.new) (O.faults out.new) err (D.faults disk.new)) };

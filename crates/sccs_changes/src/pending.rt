@@ -9,7 +9,8 @@ ghost use Rattle.sccs_sid.specs.declared.refusals.StepFault.TheVariants as fault
 ghost use Rattle.sccs_steps.specs.Actions.{RefusesWithin};
 ghost use Rattle.sccs_table.specs.FrontFile.{IsPlaced};
 ghost use Rattle.sccs_changes.specs.PFiles.{OnlyReads, PassesCheck};
-ghost use Rattle.sccs_changes.specs.Pending.{AnswersPending, agreeing, agreement_checks, pending_checks, sfile_size_checks, sized};
+ghost use Rattle.sccs_changes.specs.Pending.{AnswersPending, agreeing, agreement_checks, pending_checks};
+ghost use Rattle.sccs_changes.specs.Pending.{sfile_size_checks, sized};
 
 use crate::pfiles::{entries, read_p};
 use sccs_base::{FILE_LIMIT, Name};
@@ -66,7 +67,8 @@ fn check_agreement(alloc: Global, header: &Header, edits: &Edits) -> Result<(), 
 /// is an entry, and the entries agree with the delta table. sccsfile(4); System V, p-file.
 pub fn read_pending<D: Disk>(alloc: Global, disk: &mut D, name: &Name) -> Result<Pending, StepFault>
     requires { IsSFileName name.now }
-    ensures told { IfSome (seen (D.told disk.old)) (λ (v : View). AnswersPending (v name.now) (v (p_file name.now)) result) }
+    ensures told { IfSome (seen (D.told disk.old)) (λ (v : View). AnswersPending (v name.now) (v (p_file name.now))
+        result) }
     ensures placed { IfOk result (λ p. IsPlaced p.front) }
     ensures rules { IfOk result (λ p. IsHeader p.front.header) }
     ensures spelled { IfOk result (λ p. IsSpelled p.front.header) }

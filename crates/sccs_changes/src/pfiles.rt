@@ -6,7 +6,8 @@ ghost use Rattle.sccs_pfile.specs.Entries.{IsEdit};
 ghost use Rattle.sccs_pfile.specs.Reading.{edits_of};
 ghost use Rattle.sccs_sid.specs.declared.refusals.StepFault.TheVariants as fault;
 ghost use Rattle.sccs_steps.specs.Actions.{RefusesWithin};
-ghost use Rattle.sccs_changes.specs.PFiles.{Answers, OnlyReads, entries_of, entry_checks, or_bad_pfile, pfile_checks, short_bytes, size_checks};
+ghost use Rattle.sccs_changes.specs.PFiles.{Answers, OnlyReads, entries_of, entry_checks, or_bad_pfile, pfile_checks};
+ghost use Rattle.sccs_changes.specs.PFiles.{short_bytes, size_checks};
 
 use sccs_base::{Bytes, Name};
 use sccs_disk::Disk;

@@ -11,7 +11,8 @@ use sccs_sid::StepFault;
 
 /// Gives bytes, where there are any.
 pub fn give_any<S: Sink>(bytes: &[u8], out: &mut S) -> Result<(), Failed>
-    ensures text { GivesText bytes.now (S.given out.old) (S.given out.new) (S.faults out.old) (S.faults out.new) result }
+    ensures text { GivesText bytes.now (S.given out.old) (S.given out.new) (S.faults out.old)
+        (S.faults out.new) result }
     ensures none { bytes.now ≡ [] → S.given out.new ≡ S.given out.old }
 {
     if bytes.is_empty() {
@@ -31,7 +32,8 @@ pub fn report<O: Sink, E: Sink>(
         (world view (O.given out.old) (E.given err.old)) (world view (O.given out.new) (E.given err.new)) }
     ensures none { prepared.now.report ≡ [] → O.given out.new ≡ O.given out.old }
     ensures causes { (input disk : ℕ) → StepCauses result
-        (counts input (O.faults out.old) (E.faults err.old) disk) (counts input (O.faults out.new) (E.faults err.new) disk) }
+        (counts input (O.faults out.old) (E.faults err.old) disk) (counts input (O.faults out.new)
+        (E.faults err.new) disk) }
 {
     let Ok(()) = give_any(prepared.report.bytes(), out) else {
         return Err(StepFault::WriteFault);

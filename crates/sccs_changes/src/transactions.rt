@@ -35,12 +35,14 @@ fn finish<O: Sink, E: Sink, D: Disk>(
     requires sfile { IsSFileName name.now }
     requires ready { IsReady name.now prepared.now (D.told disk.old) }
     ensures finishes { FinishesCommit result name.now prepared.now
-        (world (seen (D.told disk.old)) (O.given out.old) (E.given err.old)) (world (seen (D.told disk.new)) (O.given out.new) (E.given err.new)) }
+        (world (seen (D.told disk.old)) (O.given out.old) (E.given err.old)) (world (seen (D.told disk.new))
+        (O.given out.new) (E.given err.new)) }
     ensures commits { Commits result name.now prepared.now (D.told disk.old) (D.told disk.new) }
     ensures others { KeepsOthers (is_own name.now) (D.told disk.old) (D.told disk.new) }
     ensures none { prepared.now.report ≡ [] → O.given out.new ≡ O.given out.old }
     ensures causes { (input : ℕ) → StepCauses result
-        (counts input (O.faults out.old) (E.faults err.old) (D.faults disk.old)) (counts input (O.faults out.new) (E.faults err.new) (D.faults disk.new)) }
+        (counts input (O.faults out.old) (E.faults err.old) (D.faults disk.old)) (counts input (O.faults out.new)
+        (E.faults err.new) (D.faults disk.new)) }
 {
     match commit(disk, name, prepared.new_s, prepared.new_p, prepared.new_g) {
         Ok(()) => report(prepared, out, err),
@@ -52,9 +54,11 @@ fn finish<O: Sink, E: Sink, D: Disk>(
 fn give_up<D: Disk>(fault: StepFault, name: &Name, disk: &mut D) -> Result<(), StepFault>
     requires { IsSFileName name.now }
     ensures touches { TouchesOnly (is_left name.now) (D.told disk.old) (D.told disk.new) }
-    ensures gives_up { (out err : Option (List ℕ)) → GivesUp result fault name.now (world (seen (D.told disk.old)) out err) (world (seen (D.told disk.new)) out err) }
+    ensures gives_up { (out err : Option (List ℕ)) → GivesUp result fault name.now
+        (world (seen (D.told disk.old)) out err) (world (seen (D.told disk.new)) out err) }
     ensures later { D.faults disk.old ≤ D.faults disk.new }
-    ensures cause { result ≡ Err step.DiskFault → (fault ≡ step.DiskFault) × (D.faults disk.new ≡ D.faults disk.old) ⊎ Rose (D.faults disk.old) (D.faults disk.new) }
+    ensures cause { result ≡ Err step.DiskFault → (fault ≡ step.DiskFault) × (D.faults disk.new ≡ D.faults disk.old)
+        ⊎ Rose (D.faults disk.old) (D.faults disk.new) }
 {
     if let StepFault::DiskFault = fault {
         return Err(fault);
@@ -80,15 +84,18 @@ pub fn change_file<C: Change, I: Source, O: Sink, E: Sink, D: Disk>(
 ) -> Result<(), StepFault>
     requires { IsSFileName name.now }
     ensures step { Stepped (locking (C.change change.now)) result name.now (I.left input.old)
-        (scene (D.told disk.old) (O.given out.old) (E.given err.old)) (scene (D.told disk.new) (O.given out.new) (E.given err.new)) }
+        (scene (D.told disk.old) (O.given out.old) (E.given err.old)) (scene (D.told disk.new) (O.given out.new)
+        (E.given err.new)) }
     ensures crash_points { StepCrashPoints (locking (C.change change.now)) result name.now (I.left input.old)
-        (scene (D.told disk.old) (O.given out.old) (E.given err.old)) (scene (D.told disk.new) (O.given out.new) (E.given err.new)) }
+        (scene (D.told disk.old) (O.given out.old) (E.given err.old)) (scene (D.told disk.new) (O.given out.new)
+        (E.given err.new)) }
     ensures unlocked { StepUnlocked (locking (C.change change.now)) name.now (D.told disk.old) (D.told disk.new) }
     ensures others { StepOthers (locking (C.change change.now)) name.now (D.told disk.old) (D.told disk.new) }
     ensures speaks { SpeaksBy (C.change change.now).could result name.now (E.given err.old) (E.given err.new) }
     ensures silent { (C.change change.now).silent ≡ true → O.given out.new ≡ O.given out.old }
     ensures ignores { (C.change change.now).takes ≡ false
-        → Ignores step.ReadFault (I.left input.old) (I.left input.new) (I.faults input.old) (I.faults input.new) result }
+        → Ignores step.ReadFault (I.left input.old) (I.left input.new) (I.faults input.old) (I.faults input.new)
+        result }
     ensures causes { StepCauses result
         (counts (I.faults input.old) (O.faults out.old) (E.faults err.old) (D.faults disk.old))
         (counts (I.faults input.new) (O.faults out.new) (E.faults err.new) (D.faults disk.new)) }

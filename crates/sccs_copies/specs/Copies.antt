@@ -51,9 +51,11 @@ abbrev pub IsOuterResult : {T : Type 0} → Result T FileFault → Type 0
 IsOuterResult (Ok x) = Unit {0}
 IsOuterResult (Err fault) = IsFaultAroundCopy fault
 
--- A call that puts some text while another file is read: at every exit at most the writer's file is another, and a failing disk
+-- A call that puts some text while another file is read: at every exit at most the writer's file is another, and a
+-- failing disk
 -- is counted.
-pub record PutsSome {T : Type 0} (w w2 : Writer) (old new : Told) (faults faults_after : ℕ) (result : Result T FileFault) : Type 0 where
+pub record PutsSome {T : Type 0} (w w2 : Writer) (old new : Told) (faults faults_after : ℕ)
+    (result : Result T FileFault) : Type 0 where
   pub text : List ℕ
   pub ok : OnOk result (Puts text w w2 old new)
   pub name : w2.name ≡ w.name
@@ -62,7 +64,8 @@ pub record PutsSome {T : Type 0} (w w2 : Writer) (old new : Told) (faults faults
   pub cause : result ≡ Err Failed → Rose faults faults_after
 
 -- A call that appends some bytes and more to a file.
-pub record AppendsSome {T : Type 0} (n front : List ℕ) (old new : Told) (faults faults_after : ℕ) (result : Result T FileFault) : Type 0 where
+pub record AppendsSome {T : Type 0} (n front : List ℕ) (old new : Told) (faults faults_after : ℕ)
+    (result : Result T FileFault) : Type 0 where
   pub more : List ℕ
   pub ok : OnOk result (Appends n (front ++ more) old new)
   pub only : OnlyWrites n old new
@@ -75,29 +78,34 @@ pub record IsBegun {F : Type 0} (filter : Filter F) (live : List ℕ) (c : Copyi
   pub stands : filter.stands c.filter []
 
 -- Items were taken behind others, and what the filter makes of them was put.
-pub record PutsFiltered {F : Type 0} (filter : Filter F) (before after taken : List Item) (f f2 : F) (w w2 : Writer) (old new : Told) : Type 0 where
+pub record PutsFiltered {F : Type 0} (filter : Filter F) (before after taken : List Item) (f f2 : F) (w w2 : Writer)
+    (old new : Told) : Type 0 where
   pub items : List Item
   pub puts : Puts (spelled items) w w2 old new
   pub filters : Filters filter before after taken items f f2
 
 -- Behind some items more were read, each of which may stand, and what the filter makes of them was put.
-pub record CopiesItems {F : Type 0} (filter : Filter F) (live : List ℕ) (before : List Item) (c c2 : Copying F) (w w2 : Writer) (old new : Told) : Type 0 where
+pub record CopiesItems {F : Type 0} (filter : Filter F) (live : List ℕ) (before : List Item) (c c2 : Copying F)
+    (w w2 : Writer) (old new : Told) : Type 0 where
   pub taken : List Item
   pub after : List Item
   pub goes : (rest : List Item) → GoesOn live after rest → GoesOn live before (taken ++ rest)
   pub put : PutsFiltered filter before after taken c.filter c2.filter w w2 old new
 
 -- The same, and the copy stands behind them; or the body is over.
-pub record CopiesOn {F : Type 0} (filter : Filter F) (live : List ℕ) (before : List Item) (c c2 : Copying F) (w w2 : Writer) (old new : Told) : Type 0 where
+pub record CopiesOn {F : Type 0} (filter : Filter F) (live : List ℕ) (before : List Item) (c c2 : Copying F)
+    (w w2 : Writer) (old new : Told) : Type 0 where
   pub some : CopiesItems filter live before c c2 w w2 old new
   pub behind : IsBehind live some.after c2.items
 
-pub record CopiesBody {F : Type 0} (filter : Filter F) (live : List ℕ) (before : List Item) (c c2 : Copying F) (w w2 : Writer) (old new : Told) : Type 0 where
+pub record CopiesBody {F : Type 0} (filter : Filter F) (live : List ℕ) (before : List Item) (c c2 : Copying F)
+    (w w2 : Writer) (old new : Told) : Type 0 where
   pub some : CopiesItems filter live before c c2 w w2 old new
   pub over : is_over some.after ≡ true
 
 -- what becomes of the next item
-abbrev pub CopiesItem : {F : Type 0} → Filter F → List ℕ → List Item → Copying F → Copying F → Writer → Writer → Told → Told → Result Bool FileFault → Type 0
+abbrev pub CopiesItem : {F : Type 0} → Filter F → List ℕ → List Item → Copying F → Copying F → Writer → Writer → Told
+    → Told → Result Bool FileFault → Type 0
 CopiesItem filter live before c c2 w w2 old new (Ok true) = CopiesOn filter live before c c2 w w2 old new
 CopiesItem filter live before c c2 w w2 old new (Ok false) = CopiesBody filter live before c c2 w w2 old new
 CopiesItem filter live before c c2 w w2 old new (Err fault) = Unit {0}
@@ -122,7 +130,8 @@ pub record CopyComes {F : Type 0} (filter : Filter F) (file : List ℕ) (items :
   pub output_is : filter.output c.filter before rest ≡ Some items
 
 -- Some of the output was put, and the rest is to come.
-pub record CopiesSome {F : Type 0} (filter : Filter F) (file : List ℕ) (items : List Item) (c c2 : Copying F) (w w2 : Writer) (old new : Told) : Type 0 where
+pub record CopiesSome {F : Type 0} (filter : Filter F) (file : List ℕ) (items : List Item) (c c2 : Copying F)
+    (w w2 : Writer) (old new : Told) : Type 0 where
   pub first : List Item
   pub rest : List Item
   pub whole : items ≡ first ++ rest
@@ -130,7 +139,8 @@ pub record CopiesSome {F : Type 0} (filter : Filter F) (file : List ℕ) (items 
   pub on : CopyComes filter file rest c2
 
 -- The body is over: some of the output was put, and the filter has the rest.
-pub record CopiesWhole {F : Type 0} (filter : Filter F) (items : List Item) (f2 : F) (w w2 : Writer) (old new : Told) : Type 0 where
+pub record CopiesWhole {F : Type 0} (filter : Filter F) (items : List Item) (f2 : F) (w w2 : Writer)
+    (old new : Told) : Type 0 where
   pub first : List Item
   pub rest : List Item
   pub after : List Item
@@ -140,17 +150,20 @@ pub record CopiesWhole {F : Type 0} (filter : Filter F) (items : List Item) (f2 
   pub output_is : filter.output f2 after [] ≡ Some rest
 
 -- some of the output was put; of a told file only the disk or memory can keep it from that
-abbrev pub CopiesTexts : {F : Type 0} → Filter F → List ℕ → List Item → Copying F → Copying F → Writer → Writer → Told → Told → Result (Unit {0}) FileFault → Type 0
+abbrev pub CopiesTexts : {F : Type 0} → Filter F → List ℕ → List Item → Copying F → Copying F → Writer → Writer → Told
+    → Told → Result (Unit {0}) FileFault → Type 0
 CopiesTexts filter file items c c2 w w2 old new (Ok done) = CopiesSome filter file items c c2 w w2 old new
 CopiesTexts filter file items c c2 w w2 old new (Err fault) = IsFaultAroundCopy fault
 
 -- the next item, or the end
-abbrev pub CopiesNext : {F : Type 0} → Filter F → List ℕ → List Item → Copying F → Copying F → Writer → Writer → Told → Told → Result Bool FileFault → Type 0
+abbrev pub CopiesNext : {F : Type 0} → Filter F → List ℕ → List Item → Copying F → Copying F → Writer → Writer → Told
+    → Told → Result Bool FileFault → Type 0
 CopiesNext filter file items c c2 w w2 old new (Ok true) = CopiesSome filter file items c c2 w w2 old new
 CopiesNext filter file items c c2 w w2 old new (Ok false) = CopiesWhole filter items c2.filter w w2 old new
 CopiesNext filter file items c c2 w w2 old new (Err fault) = IsFaultAroundCopy fault
 
-abbrev pub CopiesAll : {F : Type 0} → Filter F → List Item → F → Writer → Writer → Told → Told → Result (Unit {0}) FileFault → Type 0
+abbrev pub CopiesAll : {F : Type 0} → Filter F → List Item → F → Writer → Writer → Told → Told
+    → Result (Unit {0}) FileFault → Type 0
 CopiesAll filter items f2 w w2 old new (Ok done) = CopiesWhole filter items f2 w w2 old new
 CopiesAll filter items f2 w w2 old new (Err fault) = IsFaultAroundCopy fault
 
@@ -182,9 +195,11 @@ abbrev pub MakesFile : Header → List Item → List ℕ → Option View → Opt
 MakesFile h items n old new (Ok done) = Becomes (λ v. put v n (Some (sealed h items))) old new
 MakesFile h items n old new (Err fault) = IsFaultAroundCopy fault
 
--- A call that makes the file of a name and writes it: at most that file is another, at Ok it is there and firm, and a failing disk is
+-- A call that makes the file of a name and writes it: at most that file is another, at Ok it is there and firm, and a
+-- failing disk is
 -- counted.
-pub record MakesOneFile {T E : Type 0} (n : List ℕ) (failed : E) (old new : Told) (faults faults_after : ℕ) (result : Result T E) : Type 0 where
+pub record MakesOneFile {T E : Type 0} (n : List ℕ) (failed : E) (old new : Told) (faults faults_after : ℕ)
+    (result : Result T E) : Type 0 where
   pub moves : Moves (bytes_eq n) (λ v. v) (seen old) (seen new)
   pub there : OnOk result (IsThere n new)
   pub touches : TouchesOnly (bytes_eq n) old new

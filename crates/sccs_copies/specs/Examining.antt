@@ -1,5 +1,6 @@
 -- The result of a script, as a reading of its base finds it line by line (own).
-use Rattle.std.specs.Prelude.{◌≡◌, ℕ, suc, ◌+◌, ◌≤◌, Bool, true, false, not, ◌||◌, List, [], ◌∷◌, ◌++◌, length, drop, Option, None, Some, Result, Ok, Err, if◌then◌else◌}
+use Rattle.std.specs.Prelude.{◌≡◌, ℕ, suc, ◌+◌, ◌≤◌, Bool, true, false, not, ◌||◌, List, [], ◌∷◌, ◌++◌, length, drop}
+use Rattle.std.specs.Prelude.{Option, None, Some, Result, Ok, Err, if◌then◌else◌}
 use Rattle.std.specs.List.{list_any}
 use Rattle.std.specs.Str.{bytes_eq}
 use Rattle.sccs_base.specs.Cut.{text_of}
@@ -38,7 +39,8 @@ result_of p lines = added_after 0 p.added ++ result_from p 0 lines
 abbrev pub has_keyword : List ℕ → Bool
 has_keyword line = list_any is_keyword (parts line)
 
--- The number, from 1, of the first line at which two texts differ, or the number of lines of the shorter one plus 1, where so
+-- The number, from 1, of the first line at which two texts differ, or the number of lines of the shorter one plus 1,
+-- where so
 -- many lines before were equal; none where the texts are equal.
 abbrev pub first_difference : ℕ → List (List ℕ) → List (List ℕ) → Option ℕ
 first_difference k [] [] = None
@@ -75,17 +77,20 @@ difference None n lines others = first_difference n lines others
 pub record ComparesOn (file : List ℕ) (lines : List (List ℕ)) (s s2 : ResultCheck) (rest : List (List ℕ)) : Type 0 where
   pub left : List (List ℕ)
   pub comes : GComes file s2 left
-  pub same : (more : List (List ℕ)) → difference s2.differs s2.number more left ≡ difference s.differs s.number (lines ++ more) rest
+  pub same : (more : List (List ℕ)) → difference s2.differs s2.number more left ≡ difference s.differs s.number
+      (lines ++ more) rest
 
 -- Lines of the result went by.
 pub record SeesLines (told : Option (List ℕ)) (lines : List (List ℕ)) (s s2 : ResultCheck) : Type 0 where
   pub keyword : s2.keyword ≡ (s.keyword || list_any has_keyword lines)
   pub compares : s2.compares ≡ s.compares
   pub name : s2.lines.name ≡ s.lines.name
-  pub compared : (file : List ℕ) (rest : List (List ℕ)) → told ≡ Some file → s.compares ≡ true → GComes file s rest → ComparesOn file lines s s2 rest
+  pub compared : (file : List ℕ) (rest : List (List ℕ)) → told ≡ Some file → s.compares ≡ true → GComes file s rest
+      → ComparesOn file lines s s2 rest
 
 -- lines went by; or it was no fault of a file that was read
-abbrev pub SeesAll : Option (List ℕ) → List (List ℕ) → ResultCheck → ResultCheck → {T : Type 0} → Result T FileFault → Type 0
+abbrev pub SeesAll : Option (List ℕ) → List (List ℕ) → ResultCheck → ResultCheck → {T : Type 0} → Result T FileFault
+    → Type 0
 SeesAll told lines s s2 (Ok done) = SeesLines told lines s s2
 SeesAll told lines s s2 (Err fault) = IsFaultAroundCopy fault
 
@@ -106,19 +111,23 @@ line_texts (line ∷ lines) = line.text ∷ line_texts lines
 
 -- ---- what is found
 
--- What a reading found of the result of a plan: how many lines the base has, whether a line of the result has a keyword, and
+-- What a reading found of the result of a plan: how many lines the base has, whether a line of the result has a
+-- keyword, and
 -- where a g-file that is compared differs.
-pub record FindsResult (g : Option (List ℕ)) (p : Plan) (base : List (List ℕ)) (compares : Bool) (found : Found) : Type 0 where
+pub record FindsResult (g : Option (List ℕ)) (p : Plan) (base : List (List ℕ)) (compares : Bool) (found : Found) : Type
+    0 where
   pub lines : found.lines ≡ length base
   pub keyword : found.keyword ≡ list_any has_keyword (result_of p base)
-  pub differs : (file : List ℕ) → g ≡ Some file → length file ≤ 1073741824 → compares ≡ true → found.differs ≡ first_difference 0 (result_of p base) (text_of file)
+  pub differs : (file : List ℕ) → g ≡ Some file → length file ≤ 1073741824 → compares ≡ true
+      → found.differs ≡ first_difference 0 (result_of p base) (text_of file)
 
 abbrev pub Examines : Option (List ℕ) → Plan → List (List ℕ) → Bool → Result Found FileFault → Type 0
 Examines g p base compares (Ok found) = FindsResult g p base compares found
 Examines g p base compares (Err fault) = IsFaultAroundCopy fault
 
 -- Some lines of the base went by, and others are to come.
-pub record ExaminesSome (file : List ℕ) (r : VersionPlace) (g : Option (List ℕ)) (lines : List HistoryLine) (at at2 : Passed) (s s2 : ResultCheck) : Type 0 where
+pub record ExaminesSome (file : List ℕ) (r : VersionPlace) (g : Option (List ℕ)) (lines : List HistoryLine)
+    (at at2 : Passed) (s s2 : ResultCheck) : Type 0 where
   pub first : List HistoryLine
   pub rest : List HistoryLine
   pub whole : lines ≡ first ++ rest
@@ -127,16 +136,19 @@ pub record ExaminesSome (file : List ℕ) (r : VersionPlace) (g : Option (List �
   pub on : Coming file r rest
 
 -- All of them went by.
-pub record ExaminesWhole (g : Option (List ℕ)) (lines : List HistoryLine) (at at2 : Passed) (s s2 : ResultCheck) : Type 0 where
+pub record ExaminesWhole (g : Option (List ℕ)) (lines : List HistoryLine) (at at2 : Passed) (s s2 : ResultCheck) : Type
+    0 where
   pub sees : SeesLines g (result_from at.plan at.line (line_texts lines)) s s2
   pub line : at2.line ≡ at.line + length lines
 
-abbrev pub ExaminesNext : List ℕ → VersionPlace → Option (List ℕ) → List HistoryLine → Passed → Passed → ResultCheck → ResultCheck → Result Bool FileFault → Type 0
+abbrev pub ExaminesNext : List ℕ → VersionPlace → Option (List ℕ) → List HistoryLine → Passed → Passed → ResultCheck
+    → ResultCheck → Result Bool FileFault → Type 0
 ExaminesNext file r g lines at at2 s s2 (Ok true) = ExaminesSome file r g lines at at2 s s2
 ExaminesNext file r g lines at at2 s s2 (Ok false) = ExaminesWhole g lines at at2 s s2
 ExaminesNext file r g lines at at2 s s2 (Err fault) = IsFaultAroundCopy fault
 
-abbrev pub ExaminesAll : Option (List ℕ) → List HistoryLine → Passed → Passed → ResultCheck → ResultCheck → Result (Unit {0}) FileFault → Type 0
+abbrev pub ExaminesAll : Option (List ℕ) → List HistoryLine → Passed → Passed → ResultCheck → ResultCheck
+    → Result (Unit {0}) FileFault → Type 0
 ExaminesAll g lines at at2 s s2 (Ok done) = ExaminesWhole g lines at at2 s s2
 ExaminesAll g lines at at2 s s2 (Err fault) = IsFaultAroundCopy fault
 

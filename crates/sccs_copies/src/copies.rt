@@ -10,7 +10,9 @@ ghost use Rattle.sccs_body.specs.Reader.{bytes_left, name_read};
 ghost use Rattle.sccs_body.specs.ToCome.{IsFrontFor, ToCome};
 ghost use Rattle.sccs_writers.specs.Puts.{Puts, PutsText};
 ghost use Rattle.sccs_writers.specs.Spelled.{spelled};
-ghost use Rattle.sccs_copies.specs.Copies.{CanCopy, CopiesAll, CopiesBody, CopiesItem, CopiesNext, CopiesOn, CopiesTexts, CopyComes, IsBegun, OfSomeBody, PutsItems, PutsSome, as_file_fault};
+ghost use Rattle.sccs_copies.specs.Copies.{CanCopy, CopiesAll, CopiesBody, CopiesItem, CopiesNext, CopiesOn};
+ghost use Rattle.sccs_copies.specs.Copies.{CopiesTexts, CopyComes, IsBegun, OfSomeBody, PutsItems, PutsSome};
+ghost use Rattle.sccs_copies.specs.Copies.{as_file_fault};
 ghost use Rattle.sccs_copies.specs.Filters.{Finishes};
 
 use crate::filters::BodyFilter;
@@ -37,7 +39,8 @@ impl<F: Drop> Copying<F> {
         ensures filter { IfOk result (λ c. c.filter ≡ filter) }
         ensures behind { IfOk result (λ c. IsBehind (live_serials front.now.header.records) [] c.items) }
         ensures told { (file : List ℕ) → IsFrontFor file front.now
-            → IfOk result (λ c. ToCome file (live_serials front.now.header.records) [] (items_of file front.now) c.items) }
+            → IfOk result (λ c. ToCome file (live_serials front.now.header.records) [] (items_of file front.now)
+            c.items) }
     {
         let items = ItemReader::new(alloc, name, front)?;
         Ok(Copying {
@@ -83,13 +86,17 @@ fn copy_texts<F: BodyFilter, D: Disk>(
     disk: &mut D,
 ) -> Result<(), FileFault>
     requires { IsThere out.old.name (D.told disk.old) }
-    ensures puts { PutsSome out.old out.new (D.told disk.old) (D.told disk.new) (D.faults disk.old) (D.faults disk.new) result }
+    ensures puts { PutsSome out.old out.new (D.told disk.old) (D.told disk.new) (D.faults disk.old) (D.faults disk.new)
+        result }
     ensures read { name_read copying.new.items ≡ name_read copying.old.items }
     ensures left { bytes_left copying.new.items ≤ bytes_left copying.old.items }
-    ensures goes { (live : List ℕ) (before : List Item) → IsBehind live before copying.old.items → F.filter.stands copying.old.filter before
-        → OnOk result (CopiesOn F.filter live before copying.old copying.new out.old out.new (D.told disk.old) (D.told disk.new)) }
+    ensures goes { (live : List ℕ) (before : List Item) → IsBehind live before copying.old.items
+        → F.filter.stands copying.old.filter before
+        → OnOk result (CopiesOn F.filter live before copying.old copying.new out.old out.new (D.told disk.old)
+        (D.told disk.new)) }
     ensures told { (file : List ℕ) (items : List Item) → CopyComes F.filter file items copying.old
-        → CopiesTexts F.filter file items copying.old copying.new out.old out.new (D.told disk.old) (D.told disk.new) result }
+        → CopiesTexts F.filter file items copying.old copying.new out.old out.new (D.told disk.old)
+        (D.told disk.new) result }
 {
     let Some(wanted) = copying.filter.passes_texts() else {
         return Ok(());
@@ -113,14 +120,19 @@ fn copy_item<F: BodyFilter, D: Disk>(
     disk: &mut D,
 ) -> Result<bool, FileFault>
     requires { IsThere out.old.name (D.told disk.old) }
-    ensures puts { PutsSome out.old out.new (D.told disk.old) (D.told disk.new) (D.faults disk.old) (D.faults disk.new) result }
+    ensures puts { PutsSome out.old out.new (D.told disk.old) (D.told disk.new) (D.faults disk.old) (D.faults disk.new)
+        result }
     ensures read { name_read copying.new.items ≡ name_read copying.old.items }
     ensures further { IfOk result (λ more. more ≡ true → bytes_left copying.new.items < bytes_left copying.old.items) }
-    ensures goes { (live : List ℕ) (before : List Item) → IsBehind live before copying.old.items → F.filter.stands copying.old.filter before
-        → CopiesItem F.filter live before copying.old copying.new out.old out.new (D.told disk.old) (D.told disk.new) result }
-    ensures told { (file : List ℕ) (items : List Item) → bytes_in (seen (D.told disk.old)) (name_read copying.old.items) ≡ Some file
+    ensures goes { (live : List ℕ) (before : List Item) → IsBehind live before copying.old.items
+        → F.filter.stands copying.old.filter before
+        → CopiesItem F.filter live before copying.old copying.new out.old out.new (D.told disk.old)
+        (D.told disk.new) result }
+    ensures told { (file : List ℕ) (items : List Item) → bytes_in (seen (D.told disk.old)) (name_read copying.old.items)
+        ≡ Some file
         → CopyComes F.filter file items copying.old
-        → CopiesNext F.filter file items copying.old copying.new out.old out.new (D.told disk.old) (D.told disk.new) result }
+        → CopiesNext F.filter file items copying.old copying.new out.old out.new (D.told disk.old)
+        (D.told disk.new) result }
 {
     let Some(item) = copying.items.next(disk)? else {
         return Ok(false);
@@ -139,14 +151,19 @@ fn copy_next<F: BodyFilter, D: Disk>(
     disk: &mut D,
 ) -> Result<bool, FileFault>
     requires { CanCopy copying.old out.old.name (D.told disk.old) }
-    ensures puts { PutsSome out.old out.new (D.told disk.old) (D.told disk.new) (D.faults disk.old) (D.faults disk.new) result }
+    ensures puts { PutsSome out.old out.new (D.told disk.old) (D.told disk.new) (D.faults disk.old) (D.faults disk.new)
+        result }
     ensures read { name_read copying.new.items ≡ name_read copying.old.items }
     ensures further { IfOk result (λ more. more ≡ true → bytes_left copying.new.items < bytes_left copying.old.items) }
-    ensures goes { (live : List ℕ) (before : List Item) → IsBehind live before copying.old.items → F.filter.stands copying.old.filter before
-        → CopiesItem F.filter live before copying.old copying.new out.old out.new (D.told disk.old) (D.told disk.new) result }
-    ensures told { (file : List ℕ) (items : List Item) → bytes_in (seen (D.told disk.old)) (name_read copying.old.items) ≡ Some file
+    ensures goes { (live : List ℕ) (before : List Item) → IsBehind live before copying.old.items
+        → F.filter.stands copying.old.filter before
+        → CopiesItem F.filter live before copying.old copying.new out.old out.new (D.told disk.old)
+        (D.told disk.new) result }
+    ensures told { (file : List ℕ) (items : List Item) → bytes_in (seen (D.told disk.old)) (name_read copying.old.items)
+        ≡ Some file
         → CopyComes F.filter file items copying.old
-        → CopiesNext F.filter file items copying.old copying.new out.old out.new (D.told disk.old) (D.told disk.new) result }
+        → CopiesNext F.filter file items copying.old copying.new out.old out.new (D.told disk.old)
+        (D.told disk.new) result }
 {
     match copy_texts(copying, out, disk) {
         Ok(()) => copy_item(copying, out, disk),
@@ -161,10 +178,13 @@ fn copy_all<F: BodyFilter, D: Disk>(
     disk: &mut D,
 ) -> Result<(), FileFault>
     requires { CanCopy copying.old out.old.name (D.told disk.old) }
-    ensures puts { PutsSome out.old out.new (D.told disk.old) (D.told disk.new) (D.faults disk.old) (D.faults disk.new) result }
+    ensures puts { PutsSome out.old out.new (D.told disk.old) (D.told disk.new) (D.faults disk.old) (D.faults disk.new)
+        result }
     ensures goes { (live : List ℕ) → IsBegun F.filter live copying.old
-        → OnOk result (CopiesBody F.filter live [] copying.old copying.new out.old out.new (D.told disk.old) (D.told disk.new)) }
-    ensures told { (file : List ℕ) (items : List Item) → bytes_in (seen (D.told disk.old)) (name_read copying.old.items) ≡ Some file
+        → OnOk result (CopiesBody F.filter live [] copying.old copying.new out.old out.new (D.told disk.old)
+        (D.told disk.new)) }
+    ensures told { (file : List ℕ) (items : List Item) → bytes_in (seen (D.told disk.old)) (name_read copying.old.items)
+        ≡ Some file
         → CopyComes F.filter file items copying.old
         → CopiesAll F.filter items copying.new.filter out.old out.new (D.told disk.old) (D.told disk.new) result }
 {
@@ -203,12 +223,16 @@ pub fn put_body<F: BodyFilter, D: Disk>(
     disk: &mut D,
 ) -> Result<(), FileFault>
     requires { CanCopy copying.old out.old.name (D.told disk.old) }
-    ensures puts { PutsSome out.old out.new (D.told disk.old) (D.told disk.new) (D.faults disk.old) (D.faults disk.new) result }
+    ensures puts { PutsSome out.old out.new (D.told disk.old) (D.told disk.new) (D.faults disk.old) (D.faults disk.new)
+        result }
     ensures empty { OnOk result (out.new.held ≡ []) }
-    ensures told { (file : List ℕ) (items : List Item) → bytes_in (seen (D.told disk.old)) (name_read copying.old.items) ≡ Some file
-        → CopyComes F.filter file items copying.old → PutsItems items out.old out.new (D.told disk.old) (D.told disk.new) result }
+    ensures told { (file : List ℕ) (items : List Item) → bytes_in (seen (D.told disk.old)) (name_read copying.old.items)
+        ≡ Some file
+        → CopyComes F.filter file items copying.old → PutsItems items out.old out.new (D.told disk.old)
+        (D.told disk.new) result }
     ensures whole { (live : List ℕ) → IsBegun F.filter live copying.old
-        → OnOk result (OfSomeBody F.filter live copying.old.filter (λ items. Puts (spelled items) out.old out.new (D.told disk.old) (D.told disk.new))) }
+        → OnOk result (OfSomeBody F.filter live copying.old.filter (λ items. Puts (spelled items) out.old out.new
+        (D.told disk.old) (D.told disk.new))) }
 {
     copy_all(copying, out, disk)?;
     match finish(&mut copying.filter, out, disk) {

@@ -1,4 +1,5 @@
-ghost use Rattle.std.specs.Prelude.{◌≡◌, ◌≢◌, ◌+◌, ◌<◌, ◌≤◌, ◌^◌, ℕ, suc, List, [], Bool, true, false, None, Some, Option, IfOk, OnOk, drop, length};
+ghost use Rattle.std.specs.Prelude.{◌≡◌, ◌≢◌, ◌+◌, ◌<◌, ◌≤◌, ◌^◌, ℕ, suc, List, [], Bool, true, false, None, Some};
+ghost use Rattle.std.specs.Prelude.{Option, IfOk, OnOk, drop, length};
 ghost use Rattle.sccs_base.specs.Constants.{file_limit};
 ghost use Rattle.sccs_base.specs.Name.{IsSFileName};
 ghost use Rattle.sccs_disk.specs.Told.{seen};
@@ -42,7 +43,8 @@ fn see_kept<D: Disk>(
     disk: &mut D,
 ) -> Result<(), FileFault>
     ensures frame { ReadsDisk D.told D.faults disk.old disk.new result }
-    ensures sees { SeesAll (bytes_in (seen (D.told disk.old)) check.old.lines.name) (front_if kept line.now []) check.old check.new result }
+    ensures sees { SeesAll (bytes_in (seen (D.told disk.old)) check.old.lines.name) (front_if kept line.now [])
+        check.old check.new result }
     ensures name { check.new.lines.name ≡ check.old.lines.name }
 {
     if kept {
@@ -62,7 +64,8 @@ fn see_base<D: Disk>(
 ) -> Result<(), FileFault>
     requires { at.old.line + 1 < 2 ^ 64 }
     ensures frame { ReadsDisk D.told D.faults disk.old disk.new result }
-    ensures sees { SeesAll (bytes_in (seen (D.told disk.old)) check.old.lines.name) (line_result at.old.plan (suc at.old.line) line.now) check.old check.new result }
+    ensures sees { SeesAll (bytes_in (seen (D.told disk.old)) check.old.lines.name)
+        (line_result at.old.plan (suc at.old.line) line.now) check.old check.new result }
     ensures name { check.new.lines.name ≡ check.old.lines.name }
     ensures line { OnOk result (at.new.line ≡ suc at.old.line) }
     ensures plan { at.new.plan ≡ at.old.plan }
@@ -87,9 +90,11 @@ fn see_next<D: Disk>(
     ensures plan { at.new.plan ≡ at.old.plan }
     ensures few { OnOk result (at.new.line ≤ file_limit) }
     ensures further { IfOk result (λ more. more ≡ true → steps_to_end version.new < steps_to_end version.old) }
-    ensures told { (file : List ℕ) (lines : List HistoryLine) → bytes_in (seen (D.told disk.old)) (name_of version.old) ≡ Some file
+    ensures told { (file : List ℕ) (lines : List HistoryLine) → bytes_in (seen (D.told disk.old)) (name_of version.old)
+        ≡ Some file
         → Coming file version.old lines → at.old.line + length lines ≤ file_limit
-        → ExaminesNext file version.new (bytes_in (seen (D.told disk.old)) check.old.lines.name) lines at.old at.new check.old check.new result }
+        → ExaminesNext file version.new (bytes_in (seen (D.told disk.old)) check.old.lines.name) lines at.old at.new
+        check.old check.new result }
 {
     match version.next(disk) {
         Ok(Next::Line(line)) => {
@@ -119,9 +124,11 @@ fn see_all<D: Disk>(
     ensures frame { ReadsDisk D.told D.faults disk.old disk.new result }
     ensures name { check.new.lines.name ≡ check.old.lines.name }
     ensures few { OnOk result (at.new.line ≤ file_limit) }
-    ensures told { (file : List ℕ) (lines : List HistoryLine) → bytes_in (seen (D.told disk.old)) (name_of version.old) ≡ Some file
+    ensures told { (file : List ℕ) (lines : List HistoryLine) → bytes_in (seen (D.told disk.old)) (name_of version.old)
+        ≡ Some file
         → Coming file version.old lines → at.old.line + length lines ≤ file_limit
-        → ExaminesAll (bytes_in (seen (D.told disk.old)) check.old.lines.name) lines at.old at.new check.old check.new result }
+        → ExaminesAll (bytes_in (seen (D.told disk.old)) check.old.lines.name) lines at.old at.new check.old check.new
+        result }
 {
     'lines: loop {
         match see_next(alloc, version, at, check, disk) {
@@ -145,8 +152,10 @@ fn examine_all<D: Disk>(
     ensures frame { ReadsDisk D.told D.faults disk.old disk.new result }
     ensures few { IfOk result (λ found. found.lines ≤ file_limit) }
     ensures alone { compares ≡ false → IfOk result (λ found. found.differs ≡ None) }
-    ensures told { (file set g : List ℕ) (lines : List HistoryLine) → bytes_in (seen (D.told disk.old)) (name_of version.old) ≡ Some file
-        → Coming file version.old (shown set lines) → length (shown set lines) ≤ file_limit → IsBefore g compares check.old
+    ensures told { (file set g : List ℕ) (lines : List HistoryLine) → bytes_in (seen (D.told disk.old))
+        (name_of version.old) ≡ Some file
+        → Coming file version.old (shown set lines) → length (shown set lines) ≤ file_limit
+        → IsBefore g compares check.old
         → Examines (bytes_in (seen (D.told disk.old)) g) at.old.plan (select set lines) compares result }
 {
     see_lines(alloc, check, at.new_lines(), disk)?;
@@ -175,8 +184,10 @@ pub fn examine<D: Disk>(
     ensures frame { ReadsDisk D.told D.faults disk.old disk.new result }
     ensures few { IfOk result (λ found. found.lines ≤ file_limit) }
     ensures alone { compares ≡ false → IfOk result (λ found. found.differs ≡ None) }
-    ensures told { (file : List ℕ) (items : List Item) → IsBody (bytes_in (seen (D.told disk.old)) name.now) front.now set.now file items
-        → Examines (bytes_in (seen (D.told disk.old)) (drop 2 name.now)) plan (select set.now (lines_of items)) compares result }
+    ensures told { (file : List ℕ) (items : List Item) → IsBody (bytes_in (seen (D.told disk.old)) name.now) front.now
+        set.now file items
+        → Examines (bytes_in (seen (D.told disk.old)) (drop 2 name.now)) plan (select set.now (lines_of items)) compares
+        result }
 {
     let Ok(mut version) = VersionReader::new(alloc, name, front, set) else {
         return Err(FileFault::Memory);

@@ -10,9 +10,11 @@ ghost use Rattle.sccs_copies.specs.declared.base_splicers.BaseSplicer.{BaseSplic
 /// A splicer of a new delta that took no line yet doesn't refuse a whole body exactly where the set shows as
 /// many of its lines as were counted; and then it makes of it what it owes.
 pub fn spliced_outputs()
-    ensures told { (b : BaseSplicer) (body items : List Item) → b.splicer.line ≡ 0 → base_splicing.output b [] body ≡ Some items
+    ensures told { (b : BaseSplicer) (body items : List Item) → b.splicer.line ≡ 0 → base_splicing.output b [] body
+        ≡ Some items
         → (length (select b.set (lines_of body)) ≡ b.lines)
         × (items ≡ items_owed b.splicer (told_behind b.set [] body)) }
-    ensures made { (b : BaseSplicer) (body : List Item) → b.splicer.line ≡ 0 → length (select b.set (lines_of body)) ≡ b.lines
+    ensures made { (b : BaseSplicer) (body : List Item) → b.splicer.line ≡ 0 → length (select b.set (lines_of body))
+        ≡ b.lines
         → base_splicing.output b [] body ≡ Some (items_owed b.splicer (told_behind b.set [] body)) }
 {}

@@ -1,4 +1,5 @@
-//! What is read and written of an s-file: a body that is copied through a filter, and the base of a delta, read once and examined.
+//! What is read and written of an s-file: a body that is copied through a filter, and the base of a delta, read once
+//and examined.
 #![tactic(auto)]
 
 mod base_splicers;

@@ -1,10 +1,12 @@
-ghost use Rattle.std.specs.Prelude.{◌≡◌, ◌≤◌, ◌||◌, ◌++◌, ℕ, suc, List, Bool, [], ◌∷◌, false, true, None, Some, Option, Result, IfOk, OnOk};
+ghost use Rattle.std.specs.Prelude.{◌≡◌, ◌≤◌, ◌||◌, ◌++◌, ℕ, suc, List, Bool, [], ◌∷◌, false, true, None, Some, Option};
+ghost use Rattle.std.specs.Prelude.{Result, IfOk, OnOk};
 ghost use Rattle.std.specs.Str.{bytes_eq};
 ghost use Rattle.sccs_disk.specs.Told.{seen};
 ghost use Rattle.sccs_table.specs.FrontFile.{ReadsDisk};
 ghost use Rattle.sccs_table.specs.ReaderState.{bytes_in};
 ghost use Rattle.sccs_copies.specs.Copies.{IsOuterResult};
-ghost use Rattle.sccs_copies.specs.Examining.{KeepsFound, KeepsLines, ComparesOn, difference, GComes, GivesGLine, IsBefore, LinesLeft, SeesAll, has_keyword};
+ghost use Rattle.sccs_copies.specs.Examining.{KeepsFound, KeepsLines, ComparesOn, difference, GComes, GivesGLine};
+ghost use Rattle.sccs_copies.specs.Examining.{IsBefore, LinesLeft, SeesAll, has_keyword};
 
 use sccs_base::{Line, Name};
 use sccs_disk::Disk;
@@ -52,7 +54,8 @@ fn next_line<D: Disk>(
     ensures frame { ReadsDisk D.told D.faults disk.old disk.new result }
     ensures outer { IsOuterResult result }
     ensures keeps { KeepsFound check.old check.new }
-    ensures told { (file : List ℕ) (rest : List (List ℕ)) → bytes_in (seen (D.told disk.old)) check.old.lines.name ≡ Some file
+    ensures told { (file : List ℕ) (rest : List (List ℕ)) → bytes_in (seen (D.told disk.old)) check.old.lines.name
+        ≡ Some file
         → LinesLeft file check.old rest check.old.over → IfOk result (GivesGLine file check.new rest line.new.items) }
 {
     if check.over {
@@ -69,9 +72,12 @@ fn next_line<D: Disk>(
 fn note_line(check: &mut ResultCheck, there: bool, other: &[u8], line: &[u8])
     requires { check.old.differs ≡ None }
     ensures keeps { KeepsLines check.old check.new }
-    ensures more { check.old.number ≤ 1073741825 → there ≡ true → bytes_eq line.now other.now ≡ true → (check.new.number ≡ suc check.old.number) × (check.new.differs ≡ None) }
-    ensures other { check.old.number ≤ 1073741825 → there ≡ true → bytes_eq line.now other.now ≡ false → (check.new.number ≡ check.old.number) × (check.new.differs ≡ Some (suc check.old.number)) }
-    ensures none { check.old.number ≤ 1073741825 → there ≡ false → (check.new.number ≡ check.old.number) × (check.new.differs ≡ Some (suc check.old.number)) }
+    ensures more { check.old.number ≤ 1073741825 → there ≡ true → bytes_eq line.now other.now ≡ true
+        → (check.new.number ≡ suc check.old.number) × (check.new.differs ≡ None) }
+    ensures other { check.old.number ≤ 1073741825 → there ≡ true → bytes_eq line.now other.now ≡ false
+        → (check.new.number ≡ check.old.number) × (check.new.differs ≡ Some (suc check.old.number)) }
+    ensures none { check.old.number ≤ 1073741825 → there ≡ false → (check.new.number ≡ check.old.number)
+        × (check.new.differs ≡ Some (suc check.old.number)) }
 {
     let number = check.number.saturating_add(1);
     if there && line == other {
@@ -93,7 +99,8 @@ fn compare<D: Disk>(
     ensures keyword { check.new.keyword ≡ check.old.keyword }
     ensures compares { check.new.compares ≡ check.old.compares }
     ensures name { check.new.lines.name ≡ check.old.lines.name }
-    ensures told { (file : List ℕ) (rest : List (List ℕ)) → bytes_in (seen (D.told disk.old)) check.old.lines.name ≡ Some file
+    ensures told { (file : List ℕ) (rest : List (List ℕ)) → bytes_in (seen (D.told disk.old)) check.old.lines.name
+        ≡ Some file
         → GComes file check.old rest → OnOk result (ComparesOn file (line.now ∷ []) check.old check.new rest) }
 {
     if check.differs.is_some() {
@@ -120,7 +127,8 @@ pub fn see_line<D: Disk>(
     disk: &mut D,
 ) -> Result<(), FileFault>
     ensures frame { ReadsDisk D.told D.faults disk.old disk.new result }
-    ensures sees { SeesAll (bytes_in (seen (D.told disk.old)) check.old.lines.name) (line.now ∷ []) check.old check.new result }
+    ensures sees { SeesAll (bytes_in (seen (D.told disk.old)) check.old.lines.name) (line.now ∷ []) check.old check.new
+        result }
     ensures name { check.new.lines.name ≡ check.old.lines.name }
 {
     check.keyword = sees_keyword(check.keyword, line);
@@ -139,7 +147,8 @@ pub fn see_lines<D: Disk>(
     disk: &mut D,
 ) -> Result<(), FileFault>
     ensures frame { ReadsDisk D.told D.faults disk.old disk.new result }
-    ensures sees { SeesAll (bytes_in (seen (D.told disk.old)) check.old.lines.name) lines.now check.old check.new result }
+    ensures sees { SeesAll (bytes_in (seen (D.told disk.old)) check.old.lines.name) lines.now check.old check.new
+        result }
     ensures name { check.new.lines.name ≡ check.old.lines.name }
 {
     for line in lines {
@@ -160,8 +169,10 @@ pub fn first_difference<D: Disk>(
     ensures outer { IsOuterResult result }
     ensures keyword { check.new.keyword ≡ check.old.keyword }
     ensures alone { compares ≡ false → IfOk result (λ found. found ≡ None) }
-    ensures told { (file : List ℕ) (rest : List (List ℕ)) → bytes_in (seen (D.told disk.old)) check.old.lines.name ≡ Some file
-        → compares ≡ true → GComes file check.old rest → IfOk result (λ found. found ≡ difference check.old.differs check.old.number [] rest) }
+    ensures told { (file : List ℕ) (rest : List (List ℕ)) → bytes_in (seen (D.told disk.old)) check.old.lines.name
+        ≡ Some file
+        → compares ≡ true → GComes file check.old rest
+        → IfOk result (λ found. found ≡ difference check.old.differs check.old.number [] rest) }
 {
     if !compares {
         return Ok(None);

@@ -16,7 +16,8 @@ ghost use Rattle.sccs_body.specs.BodyFile.{items_of};
 ghost use Rattle.sccs_body.specs.Reader.{name_read};
 ghost use Rattle.sccs_body.specs.ToCome.{IsFrontFor};
 ghost use Rattle.sccs_writers.specs.Spelled.{spelled};
-ghost use Rattle.sccs_copies.specs.Copies.{AppendsFile, AppendsItems, AppendsSome, AppendsText, AppendsWhole, CanCopy, CopyComes, IsBegun, MakesFile, MakesOneFile, OfSomeBody};
+ghost use Rattle.sccs_copies.specs.Copies.{AppendsFile, AppendsItems, AppendsSome, AppendsText, AppendsWhole, CanCopy};
+ghost use Rattle.sccs_copies.specs.Copies.{CopyComes, IsBegun, MakesFile, MakesOneFile, OfSomeBody};
 
 use crate::copies::{Copying, file_fault, put_body};
 use crate::filters::{BodyFilter, Identity};
@@ -38,11 +39,15 @@ fn append_body<F: BodyFilter + Drop, D: Disk>(
     disk: &mut D,
 ) -> Result<Sum, FileFault>
     requires { CanCopy copying name.now (D.told disk.old) }
-    ensures appends { AppendsSome name.now [] (D.told disk.old) (D.told disk.new) (D.faults disk.old) (D.faults disk.new) result }
-    ensures told { (file : List ℕ) (items : List Item) → bytes_in (seen (D.told disk.old)) (name_read copying.items) ≡ Some file
-        → CopyComes F.filter file items copying → AppendsItems items name.now sum (D.told disk.old) (D.told disk.new) result }
+    ensures appends { AppendsSome name.now [] (D.told disk.old) (D.told disk.new) (D.faults disk.old)
+        (D.faults disk.new) result }
+    ensures told { (file : List ℕ) (items : List Item) → bytes_in (seen (D.told disk.old)) (name_read copying.items)
+        ≡ Some file
+        → CopyComes F.filter file items copying → AppendsItems items name.now sum (D.told disk.old)
+        (D.told disk.new) result }
     ensures whole { (live : List ℕ) → IsBegun F.filter live copying
-        → IfOk result (λ after. OfSomeBody F.filter live copying.filter (λ items. AppendsText name.now (spelled items) sum after (D.told disk.old) (D.told disk.new))) }
+        → IfOk result (λ after. OfSomeBody F.filter live copying.filter (λ items. AppendsText name.now
+        (spelled items) sum after (D.told disk.old) (D.told disk.new))) }
 {
     let Ok(mut out) = ItemWriter::new(alloc, name, sum) else {
         return Err(FileFault::Memory);
@@ -62,11 +67,15 @@ fn append_all<F: BodyFilter + Drop, D: Disk>(
 ) -> Result<Sum, FileFault>
     requires spelled { IsSpelled header.now }
     requires copy { CanCopy copying name.now (D.told disk.old) }
-    ensures appends { AppendsSome name.now (ended (sum_line 0)) (D.told disk.old) (D.told disk.new) (D.faults disk.old) (D.faults disk.new) result }
-    ensures told { (file : List ℕ) (items : List Item) → bytes_in (seen (D.told disk.old)) (name_read copying.items) ≡ Some file
-        → CopyComes F.filter file items copying → AppendsWhole header.now items name.now (D.told disk.old) (D.told disk.new) result }
+    ensures appends { AppendsSome name.now (ended (sum_line 0)) (D.told disk.old) (D.told disk.new) (D.faults disk.old)
+        (D.faults disk.new) result }
+    ensures told { (file : List ℕ) (items : List Item) → bytes_in (seen (D.told disk.old)) (name_read copying.items)
+        ≡ Some file
+        → CopyComes F.filter file items copying → AppendsWhole header.now items name.now (D.told disk.old)
+        (D.told disk.new) result }
     ensures whole { (live : List ℕ) → IsBegun F.filter live copying
-        → IfOk result (λ after. OfSomeBody F.filter live copying.filter (λ items. AppendsFile header.now items name.now after (D.told disk.old) (D.told disk.new))) }
+        → IfOk result (λ after. OfSomeBody F.filter live copying.filter (λ items. AppendsFile header.now items name.now
+        after (D.told disk.old) (D.told disk.new))) }
 {
     let mut sum = Sum::new();
     if let Err(refusal) = write_header(header, disk, name, &mut sum) {
@@ -87,11 +96,14 @@ fn append_x<F: BodyFilter + Drop, D: Disk>(
     requires spelled { IsSpelled header.now }
     requires there { IsThere (x_file name.now) (D.told disk.old) }
     requires own { name_read copying.items ≡ name.now }
-    ensures appends { AppendsSome (x_file name.now) (ended (sum_line 0)) (D.told disk.old) (D.told disk.new) (D.faults disk.old) (D.faults disk.new) result }
+    ensures appends { AppendsSome (x_file name.now) (ended (sum_line 0)) (D.told disk.old) (D.told disk.new)
+        (D.faults disk.old) (D.faults disk.new) result }
     ensures told { (file : List ℕ) (items : List Item) → bytes_in (seen (D.told disk.old)) name.now ≡ Some file
-        → CopyComes F.filter file items copying → AppendsWhole header.now items (x_file name.now) (D.told disk.old) (D.told disk.new) result }
+        → CopyComes F.filter file items copying → AppendsWhole header.now items (x_file name.now) (D.told disk.old)
+        (D.told disk.new) result }
     ensures whole { (live : List ℕ) → IsBegun F.filter live copying
-        → IfOk result (λ after. OfSomeBody F.filter live copying.filter (λ items. AppendsFile header.now items (x_file name.now) after (D.told disk.old) (D.told disk.new))) }
+        → IfOk result (λ after. OfSomeBody F.filter live copying.filter (λ items. AppendsFile header.now items
+        (x_file name.now) after (D.told disk.old) (D.told disk.new))) }
 {
     append_all(alloc, header, copying, &name.sibling(b'x'), disk)
 }
@@ -111,12 +123,14 @@ pub fn write_sfile<F: BodyFilter + Drop, D: Disk>(
     requires sfile { IsSFileName name.now }
     requires spelled { IsSpelled header.now }
     requires own { name_read copying.items ≡ name.now }
-    ensures frame { MakesOneFile (x_file name.now) faults.Failed (D.told disk.old) (D.told disk.new) (D.faults disk.old) (D.faults disk.new) result }
+    ensures frame { MakesOneFile (x_file name.now) faults.Failed (D.told disk.old) (D.told disk.new) (D.faults disk.old)
+        (D.faults disk.new) result }
     ensures told { (file : List ℕ) (items : List Item) → bytes_in (seen (D.told disk.old)) name.now ≡ Some file
         → CopyComes F.filter file items copying
         → MakesFile header.now items (x_file name.now) (seen (D.told disk.old)) (seen (D.told disk.new)) result }
     ensures whole { (live : List ℕ) → IsBegun F.filter live copying
-        → OnOk result (OfSomeBody F.filter live copying.filter (λ items. Becomes (λ v. put v (x_file name.now) (Some (sealed header.now items)))
+        → OnOk result (OfSomeBody F.filter live copying.filter
+        (λ items. Becomes (λ v. put v (x_file name.now) (Some (sealed header.now items)))
         (seen (D.told disk.old)) (seen (D.told disk.new)))) }
 {
     if let Err(refusal) = start(disk, name, b'x') {
@@ -141,12 +155,14 @@ pub fn replace_header<D: Disk>(
 ) -> Result<(), FileFault>
     requires sfile { IsSFileName name.now }
     requires spelled { IsSpelled header.now }
-    ensures frame { MakesOneFile (x_file name.now) faults.Failed (D.told disk.old) (D.told disk.new) (D.faults disk.old) (D.faults disk.new) result }
+    ensures frame { MakesOneFile (x_file name.now) faults.Failed (D.told disk.old) (D.told disk.new) (D.faults disk.old)
+        (D.faults disk.new) result }
     ensures told { (file : List ℕ) (items : List Item) → bytes_in (seen (D.told disk.old)) name.now ≡ Some file
         → IsFrontFor file front.now → items_of file front.now ≡ Ok items
         → MakesFile header.now items (x_file name.now) (seen (D.told disk.old)) (seen (D.told disk.new)) result }
     ensures whole { OnOk result ((items : List Item) × GoesOn (live_serials front.now.header.records) [] items
-        × Becomes (λ v. put v (x_file name.now) (Some (sealed header.now items))) (seen (D.told disk.old)) (seen (D.told disk.new))) }
+        × Becomes (λ v. put v (x_file name.now) (Some (sealed header.now items))) (seen (D.told disk.old))
+        (seen (D.told disk.new))) }
 {
     let Ok(copying) = Copying::new(alloc, name, front, Identity) else {
         return Err(FileFault::Memory);

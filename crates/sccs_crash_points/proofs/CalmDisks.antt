@@ -1,5 +1,6 @@
 -- Calm disks, and disks whose s-files and p-files are firm.
-use Rattle.std.proofs.Common.{◌≡◌, ℕ, zero, suc, Bool, true, false, cond, not, List, [], ◌∷◌, take, Option, None, Some, option_map, is_some, refl, sym, ap, subst, ◌∙◌, ⊎_elim, arith}
+use Rattle.std.proofs.Common.{◌≡◌, ℕ, zero, suc, Bool, true, false, cond, not, List, [], ◌∷◌, take, Option, None, Some}
+use Rattle.std.proofs.Common.{option_map, is_some, refl, sym, ap, subst, ◌∙◌, ⊎_elim, arith}
 use Rattle.std.proofs.lemmas.List.Elements.{All-append}
 use Rattle.std.proofs.lemmas.Option.{get_or_from_slice_get, slice_get_within}
 use Rattle.std.specs.List.{All}
@@ -20,21 +21,24 @@ use Rattle.sccs_intents.specs.declared.intents.Fate.{Fate}
 use Rattle.sccs_intents.specs.declared.intents.Fate.TheVariants.{Replaced, Removed}
 use Rattle.sccs_crash_points.specs.Calm.{HasFirm, IsCalm, IsUnnamed, KeepsPairs}
 use Rattle.sccs_crash_points.specs.Recovery.{fate_at, newer, pair_of}
-use Rattle.sccs_crash_points.proofs.Recovering.{SameLooks, fate_same, looks_recover, p_of, pair_same, recovered_as, recovered_at, recovers_back, recovers_then, recovers_to, s_of}
+use Rattle.sccs_crash_points.proofs.Recovering.{SameLooks, fate_same, looks_recover, p_of, pair_same, recovered_as}
+use Rattle.sccs_crash_points.proofs.Recovering.{recovered_at, recovers_back, recovers_then, recovers_to, s_of}
 
 -- ---- a file that isn't firm could be another
 
 loose_fits : (f : File) (c : Content) → f.firm ≡ false → Fits (Some f) (Some c)
 loose_fits f c loose = subst (λ b. cond b (Some c ≡ Some f.content) (IsSome (Some c))) (sym loose) refl
 
-full_put : (m : Model) (k : List ℕ) (c : Content) (f : File) → file_under m k ≡ Some f → f.firm ≡ false → Full m (put (view_of m) k (Some c))
+full_put : (m : Model) (k : List ℕ) (c : Content) (f : File) → file_under m k ≡ Some f → f.firm ≡ false
+    → Full m (put (view_of m) k (Some c))
 full_put m k c f is loose l =
     ⊎_elim (λ e. subst (λ x. Fits (file_under m x) (put (view_of m) k (Some c) x)) e here)
     (λ apart. subst (λ o. Fits (file_under m l) o) (sym (put_other (view_of m) k l (Some c) apart)) (view_full m l))
     (name_cases k l)
   where
     here : Fits (file_under m k) (put (view_of m) k (Some c) k)
-    here = subst (λ o. Fits o (put (view_of m) k (Some c) k)) (sym is) (subst (λ o. Fits (Some f) o) (sym (put_same (view_of m) k (Some c))) (loose_fits f c loose))
+    here = subst (λ o. Fits o (put (view_of m) k (Some c) k)) (sym is) (subst (λ o. Fits (Some f) o)
+        (sym (put_same (view_of m) k (Some c))) (loose_fits f c loose))
 
 abbrev other : Content → Content
 other c = record { bytes = c.bytes; writable = not c.writable }
@@ -47,18 +51,22 @@ never : (b : Bool) → not b ≡ b → ⊥
 never true e = cc
 never false e = cc
 
-loose_not : (m : Model) (k : List ℕ) (f : File) → file_under m k ≡ Some f → ((w : View) → Full m w → w k ≡ view_of m k) → f.firm ≡ false → ⊥
+loose_not : (m : Model) (k : List ℕ) (f : File) → file_under m k ≡ Some f → ((w : View) → Full m w → w k ≡ view_of m k)
+    → f.firm ≡ false → ⊥
 loose_not m k f is only loose =
     let w : View = put (view_of m) k (Some (other f.content)) in
     let e : Some (other f.content) ≡ Some f.content =
-    sym (put_same (view_of m) k (Some (other f.content))) ∙ (only w (full_put m k (other f.content) f is loose) ∙ ap (option_map (λ (g : File). g.content)) is) in
+    sym (put_same (view_of m) k (Some (other f.content))) ∙ (only w (full_put m k (other f.content) f is loose)
+    ∙ ap (option_map (λ (g : File). g.content)) is) in
     never f.content.writable (ap mark e)
 
-firm_by : (m : Model) (k : List ℕ) (f : File) → file_under m k ≡ Some f → ((w : View) → Full m w → w k ≡ view_of m k) → (b : Bool) → f.firm ≡ b → f.firm ≡ true
+firm_by : (m : Model) (k : List ℕ) (f : File) → file_under m k ≡ Some f → ((w : View) → Full m w → w k ≡ view_of m k)
+    → (b : Bool) → f.firm ≡ b → f.firm ≡ true
 firm_by m k f is only true e = e
 firm_by m k f is only false e = absurd (loose_not m k f is only e)
 
-firm_at : (m : Model) (k : List ℕ) (o : Option File) → file_under m k ≡ o → ((w : View) → Full m w → w k ≡ view_of m k) → IfSome o (λ (f : File). f.firm ≡ true)
+firm_at : (m : Model) (k : List ℕ) (o : Option File) → file_under m k ≡ o → ((w : View) → Full m w → w k ≡ view_of m k)
+    → IfSome o (λ (f : File). f.firm ≡ true)
 firm_at m k None is only = tt
 firm_at m k (Some f) is only = firm_by m k f is only f.firm refl
 
@@ -79,7 +87,8 @@ some_by : (b : Bool) (w : Option Content) (c : Content) → cond b (w ≡ Some c
 some_by true w c e = ap is_some e
 some_by false w c e = e
 
-fits_there : (o : Option File) (w : Option Content) → Fits o w → is_some w ≡ is_some (option_map (λ (f : File). f.content) o)
+fits_there : (o : Option File) (w : Option Content) → Fits o w
+    → is_some w ≡ is_some (option_map (λ (f : File). f.content) o)
 fits_there None w e = ap is_some e
 fits_there (Some f) w e = some_by f.firm w f.content e
 
@@ -109,9 +118,11 @@ q_is (Some Removed) s s2 p p2 x x2 q q2 z z2 named e there = absurd (cc)
 
 -- what is left of a name by the fate that the other view says
 by_fate : (n : List ℕ) (v w : View) → KeepsPairs v w → IsSFileName n
-    → recovered_as (fate_at v n) (w n) (w (p_file n)) (w (x_file n)) (w (q_file n)) (is_some (w (z_file n))) ≡ recovered_at v n
+    → recovered_as (fate_at v n) (w n) (w (p_file n)) (w (x_file n)) (w (q_file n)) (is_some (w (z_file n)))
+    ≡ recovered_at v n
 by_fate n v w keeps sfile =
-    ap (λ (f : Option Fate). recovered_as f (w n) (w (p_file n)) (w (x_file n)) (w (q_file n)) (is_some (w (z_file n)))) (sym (fate_same n v w keeps.intent))
+    ap (λ (f : Option Fate). recovered_as f (w n) (w (p_file n)) (w (x_file n)) (w (q_file n)) (is_some (w (z_file n))))
+    (sym (fate_same n v w keeps.intent))
     ∙ recovers_to v w keeps.recovers n sfile
 
 kept_looks : (m : Model) (w : View) → KeepsPairs (view_of m) w → Full m w → SameLooks (view_of m) w
@@ -122,10 +133,14 @@ kept_looks m w keeps full = record {
     s = ap s_of (keeps.pairs n sfile);
     p = ap p_of (keeps.pairs n sfile);
     z = full_there m w full (z_file n);
-    x = λ named. x_is (fate_at (view_of m) n) (view_of m n) (w n) (view_of m (p_file n)) (w (p_file n)) (view_of m (x_file n)) (w (x_file n)) (view_of m (q_file n)) (w (q_file n))
-        (is_some (view_of m (z_file n))) (is_some (w (z_file n))) named (by_fate n (view_of m) w keeps sfile) (full_there m w full (x_file n));
-    q = λ named. q_is (fate_at (view_of m) n) (view_of m n) (w n) (view_of m (p_file n)) (w (p_file n)) (view_of m (x_file n)) (w (x_file n)) (view_of m (q_file n)) (w (q_file n))
-        (is_some (view_of m (z_file n))) (is_some (w (z_file n))) named (by_fate n (view_of m) w keeps sfile) (full_there m w full (q_file n));
+    x = λ named. x_is (fate_at (view_of m) n) (view_of m n) (w n) (view_of m (p_file n)) (w (p_file n))
+        (view_of m (x_file n)) (w (x_file n)) (view_of m (q_file n)) (w (q_file n))
+        (is_some (view_of m (z_file n))) (is_some (w (z_file n))) named (by_fate n (view_of m) w keeps sfile)
+        (full_there m w full (x_file n));
+    q = λ named. q_is (fate_at (view_of m) n) (view_of m n) (w n) (view_of m (p_file n)) (w (p_file n))
+        (view_of m (x_file n)) (w (x_file n)) (view_of m (q_file n)) (w (q_file n))
+        (is_some (view_of m (z_file n))) (is_some (w (z_file n))) named (by_fate n (view_of m) w keeps sfile)
+        (full_there m w full (q_file n));
   };
 }
 
@@ -151,9 +166,11 @@ firm_looks m w firm full = record {
   };
 }
 
-pub firm_pairs : (m : Model) (w : View) → HasFirm m → Full m w → (n : List ℕ) → IsSFileName n → pair_of w n ≡ pair_of (view_of m) n
+pub firm_pairs : (m : Model) (w : View) → HasFirm m → Full m w → (n : List ℕ) → IsSFileName n
+    → pair_of w n ≡ pair_of (view_of m) n
 firm_pairs m w firm full n sfile =
-    pair_same _ _ _ _ (firm_stays n m w (firm.s_files n sfile) full) (firm_stays (p_file n) m w (firm.p_files n sfile) full)
+    pair_same _ _ _ _ (firm_stays n m w (firm.s_files n sfile) full) (firm_stays (p_file n) m w (firm.p_files n sfile)
+    full)
 
 pub looks_keep : (v w : View) → SameLooks v w → KeepsPairs v w
 looks_keep v w same = record {
@@ -189,9 +206,11 @@ none_pending base (suc j) = refl
 image_full : (m : Model) (w : View) → m.pending ≡ [] → Image m w → Full m w
 image_full m w none (j, fits) n =
     subst (λ (t : Names). Fits (file_at m.files (t n)) (w n))
-    (ap (λ (ops : List Op). names_after (take j ops) m.base) none ∙ (none_pending m.base j ∙ sym (ap (λ (ops : List Op). names_after ops m.base) none))) (fits n)
+    (ap (λ (ops : List Op). names_after (take j ops) m.base) none
+    ∙ (none_pending m.base j ∙ sym (ap (λ (ops : List Op). names_after ops m.base) none))) (fits n)
 
-each_firm : (files : List File) (o : Option ℕ) → All IsFirmFile files → IfSome (file_at files o) (λ (f : File). f.firm ≡ true)
+each_firm : (files : List File) (o : Option ℕ) → All IsFirmFile files → IfSome (file_at files o)
+    (λ (f : File). f.firm ≡ true)
 each_firm files None each = tt
 each_firm files (Some p) each = by (slice_get files p) refl
   where
@@ -222,18 +241,27 @@ pub empty_settled : IsSettled (model_of empty_state)
 empty_settled = record { files = none_firm; pending = refl }
 
 pub placed_settled : (n : List ℕ) (c : Content) (m : Model) → IsSettled m → IsSettled (with_placed n c m)
-placed_settled n c m still = record { files = All-append IsFirmFile m.files (effects.firm c ∷ []) still.files (one_firm c); pending = still.pending }
+placed_settled n c m still =
+    record {
+      files = All-append IsFirmFile m.files (effects.firm c ∷ []) still.files (one_firm c);
+      pending =
+          still.pending;
+    }
 
 -- firm files stay so where others change
-pub firms_left : (mine : List ℕ → Bool) (m m2 : Model) → ((n : List ℕ) → IsSFileName n → mine n ≡ false) → ((n : List ℕ) → IsSFileName n → mine (p_file n) ≡ false) → mine intent_file ≡ false
-    → ((n : List ℕ) → IsSFileName n → IsSome (fate_at (view_of m) n) → mine (x_file n) ≡ false) → ((n : List ℕ) → IsSFileName n → fate_at (view_of m) n ≡ Some Replaced → mine (q_file n) ≡ false)
+pub firms_left : (mine : List ℕ → Bool) (m m2 : Model) → ((n : List ℕ) → IsSFileName n → mine n ≡ false)
+    → ((n : List ℕ) → IsSFileName n → mine (p_file n) ≡ false) → mine intent_file ≡ false
+    → ((n : List ℕ) → IsSFileName n → IsSome (fate_at (view_of m) n) → mine (x_file n) ≡ false)
+    → ((n : List ℕ) → IsSFileName n → fate_at (view_of m) n ≡ Some Replaced → mine (q_file n) ≡ false)
     → ((k : List ℕ) → mine k ≡ false → file_under m2 k ≡ file_under m k) → HasFirm m → HasFirm m2
 firms_left mine m m2 s p intent x q files firm = record {
   s_files = λ n sfile. still n (s n sfile) (firm.s_files n sfile);
   p_files = λ n sfile. still (p_file n) (p n sfile) (firm.p_files n sfile);
   intent = still intent_file intent firm.intent;
-  x_files = λ n sfile named. still (x_file n) (x n sfile (subst (λ (f : Option Fate). IsSome f) (fate n) named)) (firm.x_files n sfile (subst (λ (f : Option Fate). IsSome f) (fate n) named));
-  q_files = λ n sfile named. still (q_file n) (q n sfile (sym (fate n) ∙ named)) (firm.q_files n sfile (sym (fate n) ∙ named));
+  x_files = λ n sfile named. still (x_file n) (x n sfile (subst (λ (f : Option Fate). IsSome f) (fate n) named))
+      (firm.x_files n sfile (subst (λ (f : Option Fate). IsSome f) (fate n) named));
+  q_files = λ n sfile named. still (q_file n) (q n sfile (sym (fate n) ∙ named)) (firm.q_files n sfile (sym (fate n)
+      ∙ named));
 }
   where
     still : (k : List ℕ) → mine k ≡ false → IsFirm k m → IsFirm k m2
@@ -242,7 +270,9 @@ firms_left mine m m2 s p intent x q files firm = record {
     fate : (n : List ℕ) → fate_at (view_of m2) n ≡ fate_at (view_of m) n
     fate n = fate_same n (view_of m) (view_of m2) (ap (option_map (λ (f : File). f.content)) (files intent_file intent))
 
-pub firms_touched : (mine : List ℕ → Bool) (m m2 : Model) → ((n : List ℕ) → IsSFileName n → mine n ≡ false) → ((n : List ℕ) → IsSFileName n → mine (p_file n) ≡ false) → mine intent_file ≡ false
-    → ((n : List ℕ) → IsSFileName n → IsSome (fate_at (view_of m) n) → mine (x_file n) ≡ false) → ((n : List ℕ) → IsSFileName n → fate_at (view_of m) n ≡ Some Replaced → mine (q_file n) ≡ false)
+pub firms_touched : (mine : List ℕ → Bool) (m m2 : Model) → ((n : List ℕ) → IsSFileName n → mine n ≡ false)
+    → ((n : List ℕ) → IsSFileName n → mine (p_file n) ≡ false) → mine intent_file ≡ false
+    → ((n : List ℕ) → IsSFileName n → IsSome (fate_at (view_of m) n) → mine (x_file n) ≡ false)
+    → ((n : List ℕ) → IsSFileName n → fate_at (view_of m) n ≡ Some Replaced → mine (q_file n) ≡ false)
     → Touches mine m m2 → HasFirm m → HasFirm m2
 firms_touched mine m m2 s p intent x q touches firm = firms_left mine m m2 s p intent x q touches.files firm

@@ -1,5 +1,6 @@
 -- The names of the files of an s-file's name differ.
-use Rattle.std.proofs.Common.{◌≡◌, ◌≢◌, ℕ, false, ◌||◌, Bool, true, List, [], ◌∷◌, length, drop, take, refl, sym, ap, subst, arith, length-drop, ◌∙◌}
+use Rattle.std.proofs.Common.{◌≡◌, ◌≢◌, ℕ, false, ◌||◌, Bool, true, List, [], ◌∷◌, length, drop, take, refl, sym, ap}
+use Rattle.std.proofs.Common.{subst, arith, length-drop, ◌∙◌}
 use Rattle.std.specs.Str.{bytes_eq}
 use Rattle.sccs_base.specs.Name.{IsSFileName, sibling, p_file, q_file, x_file, y_file, z_file}
 use Rattle.sccs_base.proofs.SameBytes.{other_bytes, same_bytes}
@@ -17,21 +18,26 @@ sfile_is (b ∷ []) sfile = absurd (let e = sfile.front in cc)
 sfile_is (b ∷ d ∷ rest) sfile = ap (λ x. x ∷ d ∷ rest) (let e = sfile.front in cc)
 
 -- the name of an s-file, and a name with another letter
-pub from_sfile : (letter : ℕ) (k n : List ℕ) → IsSFileName n → bytes_eq (sibling letter k) (sibling 115 n) ≡ false → bytes_eq (sibling letter k) n ≡ false
+pub from_sfile : (letter : ℕ) (k n : List ℕ) → IsSFileName n → bytes_eq (sibling letter k) (sibling 115 n) ≡ false
+    → bytes_eq (sibling letter k) n ≡ false
 from_sfile letter k n sfile is = subst (λ l. bytes_eq (sibling letter k) l ≡ false) (sym (sfile_is n sfile)) is
 
-pub to_sfile : (letter : ℕ) (n k : List ℕ) → IsSFileName n → bytes_eq (sibling 115 n) (sibling letter k) ≡ false → bytes_eq n (sibling letter k) ≡ false
+pub to_sfile : (letter : ℕ) (n k : List ℕ) → IsSFileName n → bytes_eq (sibling 115 n) (sibling letter k) ≡ false
+    → bytes_eq n (sibling letter k) ≡ false
 to_sfile letter n k sfile is = subst (λ l. bytes_eq l (sibling letter k) ≡ false) (sym (sfile_is n sfile)) is
 
 -- a sibling with another letter
-pub from_s : (letter : ℕ) (n : List ℕ) → IsSFileName n → bytes_eq (sibling letter n) (sibling 115 n) ≡ false → bytes_eq (sibling letter n) n ≡ false
+pub from_s : (letter : ℕ) (n : List ℕ) → IsSFileName n → bytes_eq (sibling letter n) (sibling 115 n) ≡ false
+    → bytes_eq (sibling letter n) n ≡ false
 from_s letter n sfile is = from_sfile letter n n sfile is
 
-pub to_s : (letter : ℕ) (n : List ℕ) → IsSFileName n → bytes_eq (sibling 115 n) (sibling letter n) ≡ false → bytes_eq n (sibling letter n) ≡ false
+pub to_s : (letter : ℕ) (n : List ℕ) → IsSFileName n → bytes_eq (sibling 115 n) (sibling letter n) ≡ false
+    → bytes_eq n (sibling letter n) ≡ false
 to_s letter n sfile is = to_sfile letter n n sfile is
 
 -- siblings of different names differ
-pub siblings_differ : (letter : ℕ) (n k : List ℕ) → IsSFileName n → IsSFileName k → bytes_eq n k ≡ false → bytes_eq (sibling letter n) (sibling letter k) ≡ false
+pub siblings_differ : (letter : ℕ) (n k : List ℕ) → IsSFileName n → IsSFileName k → bytes_eq n k ≡ false
+    → bytes_eq (sibling letter n) (sibling letter k) ≡ false
 siblings_differ letter n k sfile other apart =
     other_bytes (sibling letter n) (sibling letter k)
     (λ e. let one : n ≡ k = sfile_is n sfile ∙ (ap (λ (l : List ℕ). 115 ∷ drop 1 l) e ∙ sym (sfile_is k other)) in
@@ -39,7 +45,13 @@ siblings_differ letter n k sfile other apart =
     absurd (cc))
 
 shorter : (letter : ℕ) (n : List ℕ) → IsSFileName n → sibling letter n ≡ drop 2 n → ⊥
-shorter letter n sfile e = let e2 = ap length e in omega (arith, e2, length-drop 1 n, length-drop 2 n, sfile_long n sfile)
+shorter letter n sfile e = let e2 = ap length e in omega (
+  arith,
+  e2,
+  length-drop 1 n,
+  length-drop 2 n,
+  sfile_long n sfile,
+)
 
 pub from_g : (letter : ℕ) (n : List ℕ) → IsSFileName n → bytes_eq (sibling letter n) (drop 2 n) ≡ false
 from_g letter n sfile = other_bytes (sibling letter n) (drop 2 n) (shorter letter n sfile)
@@ -48,7 +60,8 @@ pub to_g : (letter : ℕ) (n : List ℕ) → IsSFileName n → bytes_eq (drop 2 
 to_g letter n sfile = other_bytes (drop 2 n) (sibling letter n) (λ e. shorter letter n sfile (sym e))
 
 pub s_and_g : (n : List ℕ) → IsSFileName n → bytes_eq n (drop 2 n) ≡ false
-s_and_g n sfile = other_bytes n (drop 2 n) (λ e. let e2 = ap length e in omega (arith, e2, length-drop 2 n, sfile_long n sfile))
+s_and_g n sfile = other_bytes n (drop 2 n) (λ e. let e2 = ap length e in
+    omega (arith, e2, length-drop 2 n, sfile_long n sfile))
 
 -- ---- working files
 
@@ -131,10 +144,12 @@ plan_and_sfile n sfile = other_bytes plan_file n (λ e.
     let c : 99 ≡ second n = ap second e in omega (arith, dot, c))
 
 -- a name that isn't kept is none of them
-begins_not : (letter : ℕ) (k l : List ℕ) → begins_by_letter letter k ≡ false → take 2 l ≡ letter ∷ 46 ∷ [] → bytes_eq k l ≡ false
+begins_not : (letter : ℕ) (k l : List ℕ) → begins_by_letter letter k ≡ false → take 2 l ≡ letter ∷ 46 ∷ []
+    → bytes_eq k l ≡ false
 begins_not letter k l not_so front =
     other_bytes k l
-    (λ e. let test : bytes_eq (take 2 k) (letter ∷ 46 ∷ []) ≡ true = subst (λ f. bytes_eq f (letter ∷ 46 ∷ []) ≡ true) (sym (ap (take 2) e ∙ front)) (same_bytes (letter ∷ 46 ∷ [])) in
+    (λ e. let test : bytes_eq (take 2 k) (letter ∷ 46 ∷ []) ≡ true = subst (λ f. bytes_eq f (letter ∷ 46 ∷ []) ≡ true)
+    (sym (ap (take 2) e ∙ front)) (same_bytes (letter ∷ 46 ∷ [])) in
     absurd (cc))
 
 sibling_front : (letter : ℕ) (k : List ℕ) → IsSFileName k → take 2 (sibling letter k) ≡ letter ∷ 46 ∷ []
@@ -171,16 +186,20 @@ pub kept_s : (g k : List ℕ) → is_kept g ≡ false → IsSFileName k → byte
 kept_s g k h sfile = begins_not 115 g k (left_false (begins_by_letter 115 g) (kept_after_s g) h) sfile.front
 
 pub kept_p : (g k : List ℕ) → is_kept g ≡ false → IsSFileName k → bytes_eq g (p_file k) ≡ false
-kept_p g k h sfile = begins_not 112 g (p_file k) (left_false (begins_by_letter 112 g) (kept_after_p g) (no_s_name g h)) (sibling_front 112 k sfile)
+kept_p g k h sfile = begins_not 112 g (p_file k) (left_false (begins_by_letter 112 g) (kept_after_p g) (no_s_name g h))
+    (sibling_front 112 k sfile)
 
 pub kept_z : (g k : List ℕ) → is_kept g ≡ false → IsSFileName k → bytes_eq g (z_file k) ≡ false
-kept_z g k h sfile = begins_not 122 g (z_file k) (left_false (begins_by_letter 122 g) (kept_after_z g) (no_p_name g h)) (sibling_front 122 k sfile)
+kept_z g k h sfile = begins_not 122 g (z_file k) (left_false (begins_by_letter 122 g) (kept_after_z g) (no_p_name g h))
+    (sibling_front 122 k sfile)
 
 pub kept_x : (g k : List ℕ) → is_kept g ≡ false → IsSFileName k → bytes_eq g (x_file k) ≡ false
-kept_x g k h sfile = begins_not 120 g (x_file k) (left_false (begins_by_letter 120 g) (kept_after_x g) (no_z_name g h)) (sibling_front 120 k sfile)
+kept_x g k h sfile = begins_not 120 g (x_file k) (left_false (begins_by_letter 120 g) (kept_after_x g) (no_z_name g h))
+    (sibling_front 120 k sfile)
 
 pub kept_q : (g k : List ℕ) → is_kept g ≡ false → IsSFileName k → bytes_eq g (q_file k) ≡ false
-kept_q g k h sfile = begins_not 113 g (q_file k) (left_false (begins_by_letter 113 g) (bytes_eq g intent_file) (no_x_name g h)) (sibling_front 113 k sfile)
+kept_q g k h sfile = begins_not 113 g (q_file k) (left_false (begins_by_letter 113 g) (bytes_eq g intent_file)
+    (no_x_name g h)) (sibling_front 113 k sfile)
 
 pub kept_intent : (g : List ℕ) → is_kept g ≡ false → bytes_eq g intent_file ≡ false
 kept_intent g h = right_false (begins_by_letter 113 g) (bytes_eq g intent_file) (no_x_name g h)
@@ -195,4 +214,6 @@ not_begun letter n other = other_bytes (take 2 (l_file n)) (letter ∷ 46 ∷ []
 pub l_plain : (n : List ℕ) → is_kept (l_file n) ≡ false
 l_plain n =
     or_from _ _ (not_begun 115 n (λ e. omega (arith, e)))
-    (or_from _ _ (not_begun 112 n (λ e. omega (arith, e))) (or_from _ _ (not_begun 122 n (λ e. omega (arith, e))) (or_from _ _ (not_begun 120 n (λ e. omega (arith, e))) (or_from _ _ (not_begun 113 n (λ e. omega (arith, e))) refl))))
+    (or_from _ _ (not_begun 112 n (λ e. omega (arith, e))) (or_from _ _ (not_begun 122 n (λ e. omega (arith, e)))
+    (or_from _ _ (not_begun 120 n (λ e. omega (arith, e))) (or_from _ _ (not_begun 113 n (λ e. omega (arith, e)))
+    refl))))

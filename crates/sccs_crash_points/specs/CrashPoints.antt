@@ -17,7 +17,8 @@ Numbered P low (a ∷ added) m j = P j a × ((i : ℕ) × (i ≤ j) × Numbered 
 
 -- where an s-file or its p-file differs, its z-file is in both views
 abbrev pub Guards : View → View → Type 0
-Guards v w = (n : List ℕ) → IsSFileName n → (pair_of w n ≡ pair_of v n) ⊎ (IsSome (v (z_file n)) × IsSome (w (z_file n)))
+Guards v w = (n : List ℕ) → IsSFileName n → (pair_of w n ≡ pair_of v n)
+    ⊎ (IsSome (v (z_file n)) × IsSome (w (z_file n)))
 
 -- from each moment to the next no s-file or p-file changes whose z-file isn't there
 abbrev pub Guarded : List Model → Model → Type 0
@@ -54,7 +55,8 @@ Stays v m past new = Went (λ j w. KeepsPairs v w) m past 0 new
 abbrev pub EndsBefore : View → Model → List Model → Told → Type 0
 EndsBefore v m past new = (went : Stays v m past new) × IsCalm (newest went.added m)
 
--- Within it: each image of each moment recovers as before or as after it, and s-files and p-files are firm, so that recovery may run.
+-- Within it: each image of each moment recovers as before or as after it, and s-files and p-files are firm, so that
+-- recovery may run.
 abbrev pub EndsWithin : View → View → Model → List Model → Told → Type 0
 EndsWithin v w m past new = (went : Went (IsAt v w) m past 0 new) × HasFirm (newest went.added m)
 
@@ -116,9 +118,11 @@ LeavesFirm old new =
 pub record SameElsewhere (n : List ℕ) (v w : View) : Type 0 where
   pub intent : w intent_file ≡ v intent_file
   pub s_files : (k : List ℕ) → IsSFileName k → bytes_eq n k ≡ false → w k ≡ v k
-  pub siblings : (letter : ℕ) (k : List ℕ) → IsSFileName k → bytes_eq n k ≡ false → w (sibling letter k) ≡ v (sibling letter k)
+  pub siblings : (letter : ℕ) (k : List ℕ) → IsSFileName k → bytes_eq n k ≡ false → w (sibling letter k) ≡ v
+      (sibling letter k)
 
 -- The step's name recovers as in w, or as in v while j is 0, and every other name as in v.
 pub record IsAtName (n : List ℕ) (v w : View) (j : ℕ) (u : View) : Type 0 where
-  pub own : (pair_of (recover n u) n ≡ pair_of (recover n w) n) ⊎ ((j ≡ 0) × (pair_of (recover n u) n ≡ pair_of (recover n v) n))
+  pub own : (pair_of (recover n u) n ≡ pair_of (recover n w) n)
+      ⊎ ((j ≡ 0) × (pair_of (recover n u) n ≡ pair_of (recover n v) n))
   pub others : (k : List ℕ) → IsSFileName k → bytes_eq n k ≡ false → pair_of (recover k u) k ≡ pair_of (recover k v) k

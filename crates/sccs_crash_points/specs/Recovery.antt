@@ -1,5 +1,6 @@
 -- What recovery makes of the files of a name, and views that recover alike.
-use Rattle.std.specs.Prelude.{◌≡◌, ◌||◌, ℕ, Bool, List, [], ◌∷◌, take, Option, None, Some, is_some, IsSome, if◌then◌else◌}
+use Rattle.std.specs.Prelude.{◌≡◌, ◌||◌, ℕ, Bool, List, [], ◌∷◌, take, Option, None, Some, is_some, IsSome}
+use Rattle.std.specs.Prelude.{if◌then◌else◌}
 use Rattle.std.specs.Str.{bytes_eq}
 use Rattle.sccs_base.specs.Name.{IsSFileName, p_file, q_file, x_file, y_file, z_file}
 use Rattle.sccs_disk.specs.Files.{Content, View, put}
@@ -20,7 +21,8 @@ cleared n v = without_name (y_file n) (without_name (q_file n) (without_name (x_
 abbrev pub cleaned : List ℕ → View → View
 cleaned n v = put (cleared n v) (p_file n) (recovered_pfile (v n) (v (p_file n)))
 
--- The view after recovery of a name that no intent names (own). Where the z-file is there, x, q and y go, entries whose delta
+-- The view after recovery of a name that no intent names (own). Where the z-file is there, x, q and y go, entries whose
+-- delta
 -- is made leave the p-file, and z goes; where it isn't, y goes alone.
 abbrev pub recover_alone : List ℕ → View → View
 recover_alone n v = if is_some (v (z_file n)) then without_name (z_file n) (cleaned n v) else without_name (y_file n) v
@@ -39,7 +41,8 @@ abbrev pub fated : Fate → Option Content → Option Content → Option Content
 fated Replaced q p = newer q p
 fated Removed q p = None
 
--- The view after recovery of a name that an intent names (own): a new s-file that is there takes its place, and so does a new
+-- The view after recovery of a name that an intent names (own): a new s-file that is there takes its place, and so does
+-- a new
 -- p-file, or the p-file goes; x, q, y and z go.
 abbrev pub recover_named : List ℕ → Fate → View → View
 recover_named n fate v =
@@ -70,7 +73,8 @@ RecoversAs v w = (n : List ℕ) → IsSFileName n → pair_of (recover n w) n �
 abbrev pub IsSettledPair : Pair → Type 0
 IsSettledPair x = recovered_pfile x.s x.p ≡ x.p
 
--- No entry of the p-file has its delta in the s-file, so that recovery would leave the p-file as it is; and no intent names
+-- No entry of the p-file has its delta in the s-file, so that recovery would leave the p-file as it is; and no intent
+-- names
 -- the name.
 pub record IsSound (n : List ℕ) (v : View) : Type 0 where
   pub entries : recovered_pfile (v n) (v (p_file n)) ≡ v (p_file n)
@@ -87,4 +91,5 @@ begins_by_letter letter k = bytes_eq (take 2 k) (letter ∷ 46 ∷ [])
 -- the names that s-files, p-files, z-files, x-files and q-files have begin so; and the intent's name
 abbrev pub is_kept : List ℕ → Bool
 is_kept k =
-    begins_by_letter 115 k || (begins_by_letter 112 k || (begins_by_letter 122 k || (begins_by_letter 120 k || (begins_by_letter 113 k || bytes_eq k intent_file))))
+    begins_by_letter 115 k || (begins_by_letter 112 k || (begins_by_letter 122 k || (begins_by_letter 120 k ||
+    (begins_by_letter 113 k || bytes_eq k intent_file))))

@@ -1,4 +1,5 @@
--- Which s-files and p-files a call changes: those that weren't locked when it began, or at a later moment before the change.
+-- Which s-files and p-files a call changes: those that weren't locked when it began, or at a later moment before the
+-- change.
 use Rattle.std.specs.Prelude.{◌≡◌, ◌⊎◌, ◌||◌, ℕ, Bool, false, List, [], ◌∷◌, drop, None, IsSome}
 use Rattle.std.specs.Str.{bytes_eq}
 use Rattle.sccs_base.specs.Name.{IsSFileName, p_file, z_file}
@@ -56,9 +57,11 @@ WasUnlocked n (a ∷ added) m = (view_of a (z_file n) ≡ None) ⊎ WasUnlocked 
 abbrev pub ComeUnlocked : List Model → Model → Type 0
 ComeUnlocked [] m = Unit {0}
 ComeUnlocked (a ∷ added) m =
-    ((n : List ℕ) → IsSFileName n → (pair_of (view_of a) n ≡ pair_of (view_of (newest added m)) n) ⊎ WasUnlocked n added m) × ComeUnlocked added m
+    ((n : List ℕ) → IsSFileName n → (pair_of (view_of a) n ≡ pair_of (view_of (newest added m)) n)
+    ⊎ WasUnlocked n added m) × ComeUnlocked added m
 
--- The story went on from a model, and before each change of an s-file or p-file its z-file wasn't there at a moment of the call.
+-- The story went on from a model, and before each change of an s-file or p-file its z-file wasn't there at a moment of
+-- the call.
 pub record BeganUnlocked (m : Model) (past : List Model) (new : Told) : Type 0 where
   pub added : List Model
   pub is : new ≡ Tells (newest added m) (earlier added m past)
@@ -72,7 +75,8 @@ BeginsUnlocked old new = (m : Model) (past : List Model) → old ≡ Tells m pas
 abbrev pub ComeUnlockedBut : (List ℕ → Bool) → List Model → Model → Type 0
 ComeUnlockedBut exempt [] m = Unit {0}
 ComeUnlockedBut exempt (a ∷ added) m =
-    ((n : List ℕ) → IsSFileName n → exempt n ≡ false → (pair_of (view_of a) n ≡ pair_of (view_of (newest added m)) n) ⊎ WasUnlocked n added m)
+    ((n : List ℕ) → IsSFileName n → exempt n ≡ false → (pair_of (view_of a) n ≡ pair_of (view_of (newest added m)) n)
+    ⊎ WasUnlocked n added m)
     × ComeUnlockedBut exempt added m
 
 pub record BeganUnlockedBut (exempt : List ℕ → Bool) (m : Model) (past : List Model) (new : Told) : Type 0 where
@@ -81,4 +85,5 @@ pub record BeganUnlockedBut (exempt : List ℕ → Bool) (m : Model) (past : Lis
   pub changes : ComeUnlockedBut exempt added m
 
 abbrev pub BeginsUnlockedBut : (List ℕ → Bool) → Told → Told → Type 0
-BeginsUnlockedBut exempt old new = (m : Model) (past : List Model) → old ≡ Tells m past → BeganUnlockedBut exempt m past new
+BeginsUnlockedBut exempt old new = (m : Model) (past : List Model) → old ≡ Tells m past
+    → BeganUnlockedBut exempt m past new

@@ -38,7 +38,8 @@ pub fn settled_disks_are_calm()
 /// From a calm disk on, a call that changes at most the working files, the z-file and the l-file of a sound
 /// name leaves every s-file and p-file in each image of each of its crash points, and the disk calm.
 pub fn calls_before_a_commit_lose_nothing()
-    ensures { (n : List ℕ) (m : Model) (past : List Model) (new : Told) → IsSFileName n → IsCalm m → IsSound n (view_of m)
+    ensures { (n : List ℕ) (m : Model) (past : List Model) (new : Told) → IsSFileName n → IsCalm m
+        → IsSound n (view_of m)
         → KeptOthers (is_early n) m past new → (went : Stays (view_of m) m past new) × IsCalm (newest went.added m) }
 {}
 

@@ -1,5 +1,6 @@
 -- The releases that are passed over, one after the other.
-use Rattle.std.proofs.Common.{◌≡◌, ℕ, suc, ◌+◌, ◌-◌, ◌<◌, Bool, true, false, not, ◌||◌, List, [], ◌++◌, length, drop, get_or, refl, sym, ap, ◌∙◌, arith, append_assoc}
+use Rattle.std.proofs.Common.{◌≡◌, ℕ, suc, ◌+◌, ◌-◌, ◌<◌, Bool, true, false, not, ◌||◌, List, [], ◌++◌, length, drop}
+use Rattle.std.proofs.Common.{get_or, refl, sym, ap, ◌∙◌, arith, append_assoc}
 use Rattle.std.specs.List.{list_any}
 use Rattle.std.proofs.lemmas.List.{at_drop_more}
 use Rattle.sccs_sid.specs.declared.sids.Sid.{Sid}
@@ -14,12 +15,16 @@ front_both false x xs ys = refl
 
 -- one release more
 pub release_put : (records : List Record) (reserved : List Sid) (release to : ℕ) (sids : List Sid) → release < to
-    → (sids ++ front_if (not (is_used records reserved release)) (first_in_release release) []) ++ unused_from records reserved (release + 1) (to - (release + 1)) ≡ sids ++ unused_from records reserved release (to - release)
+    → (sids ++ front_if (not (is_used records reserved release)) (first_in_release release) []) ++ unused_from records
+    reserved (release + 1) (to - (release + 1)) ≡ sids ++ unused_from records reserved release (to - release)
 release_put records reserved release to sids low =
-    append_assoc sids (front_if (not (is_used records reserved release)) (first_in_release release) []) (unused_from records reserved (release + 1) (to - (release + 1)))
+    append_assoc sids (front_if (not (is_used records reserved release)) (first_in_release release) [])
+    (unused_from records reserved (release + 1) (to - (release + 1)))
     ∙ ap (λ l. sids ++ l)
-    (front_both (not (is_used records reserved release)) (first_in_release release) [] (unused_from records reserved (release + 1) (to - (release + 1)))
-    ∙ (ap (λ n. front_if (not (is_used records reserved release)) (first_in_release release) (unused_from records reserved n (to - (release + 1)))) one
+    (front_both (not (is_used records reserved release)) (first_in_release release) [] (unused_from records reserved
+    (release + 1) (to - (release + 1)))
+    ∙ (ap (λ n. front_if (not (is_used records reserved release)) (first_in_release release)
+    (unused_from records reserved n (to - (release + 1)))) one
     ∙ sym (ap (unused_from records reserved release) left)))
   where
     one : release + 1 ≡ suc release
@@ -31,8 +36,11 @@ release_put records reserved release to sids low =
 -- ---- marks
 
 -- one item more is marked
-pub marked_on : {A : Type 0} (test : A → Bool) (all : List A) (i : ℕ) (d x : A) (old new first : Bool) → i < length all → x ≡ get_or all i d → new ≡ (old || test x) → (old || list_any test (drop i all)) ≡ first → (new || list_any test (drop (i + 1) all)) ≡ first
+pub marked_on : {A : Type 0} (test : A → Bool) (all : List A) (i : ℕ) (d x : A) (old new first : Bool) → i < length all
+    → x ≡ get_or all i d → new ≡ (old || test x) → (old || list_any test (drop i all)) ≡ first
+    → (new || list_any test (drop (i + 1) all)) ≡ first
 marked_on test all i d x old new first low at new_is before =
     ap (λ t. t || list_any test (drop (i + 1) all)) new_is
     ∙ (sym (or_assoc old (test x) (list_any test (drop (i + 1) all)))
-    ∙ (ap (λ y. old || (test y || list_any test (drop (i + 1) all))) at ∙ (sym (at_drop_more (λ l. old || list_any test l) all i d low) ∙ before)))
+    ∙ (ap (λ y. old || (test y || list_any test (drop (i + 1) all))) at
+    ∙ (sym (at_drop_more (λ l. old || list_any test l) all i d low) ∙ before)))

@@ -1,5 +1,8 @@
--- What delta does with the files of a name and its input: POSIX, Shell and Utilities, delta. The order of the checks is own.
-use Rattle.std.specs.Prelude.{ℕ, zero, suc, ◌+◌, ◌-◌, ◌==◌, nat_le, nat_lt, Bool, true, false, not, ◌&&◌, ◌||◌, List, [], ◌∷◌, ◌++◌, length, map, remove, slice_get, Option, None, Some, option_map, unwrap_or, is_none, is_some, min, take, Result, Ok, Err, codes, decimal, if◌then◌else◌}
+-- What delta does with the files of a name and its input: POSIX, Shell and Utilities, delta. The order of the checks is
+-- own.
+use Rattle.std.specs.Prelude.{ℕ, zero, suc, ◌+◌, ◌-◌, ◌==◌, nat_le, nat_lt, Bool, true, false, not, ◌&&◌, ◌||◌, List}
+use Rattle.std.specs.Prelude.{[], ◌∷◌, ◌++◌, length, map, remove, slice_get, Option, None, Some, option_map, unwrap_or}
+use Rattle.std.specs.Prelude.{is_none, is_some, min, take, Result, Ok, Err, codes, decimal, if◌then◌else◌}
 use Rattle.std.specs.List.{list_any}
 use Rattle.sccs_base.specs.Constants.{file_limit}
 use Rattle.sccs_base.specs.Cut.{text_of}
@@ -82,18 +85,22 @@ is_on_trunk release sid = sid.branch == 0 && sid.release == release
 
 -- some live delta of the trunk is of the release, or one that is reserved
 abbrev pub is_used : List Record → List Sid → ℕ → Bool
-is_used records reserved release = list_any (λ r. not r.removed && is_on_trunk release r.sid) records || list_any (is_on_trunk release) reserved
+is_used records reserved release = list_any (λ r. not r.removed && is_on_trunk release r.sid) records || list_any
+    (is_on_trunk release) reserved
 
 -- of so many releases, from one on, those without a delta
 abbrev pub unused_from : List Record → List Sid → ℕ → ℕ → List Sid
 unused_from records reserved release zero = []
-unused_from records reserved release (suc count) = front_if (not (is_used records reserved release)) (first_in_release release) (unused_from records reserved (suc release) count)
+unused_from records reserved release (suc count) = front_if (not (is_used records reserved release))
+    (first_in_release release) (unused_from records reserved (suc release) count)
 
--- The SIDs of the null deltas: with the flag n, the first ones of the releases without a delta between those of the SID got and
+-- The SIDs of the null deltas: with the flag n, the first ones of the releases without a delta between those of the SID
+-- got and
 -- of the SID to be made, where both are on the trunk.
 abbrev pub skipped : Header → Sid → Sid → List Sid → List Sid
 skipped header got made reserved =
-    if has_flag header.flags flag_n && (got.branch == 0 && made.branch == 0) then unused_from header.records reserved (suc got.release) (made.release - suc got.release) else []
+    if has_flag header.flags flag_n && (got.branch == 0 && made.branch == 0) then unused_from header.records reserved
+    (suc got.release) (made.release - suc got.release) else []
 
 -- ---- the entry, and its base
 
@@ -125,7 +132,8 @@ pub record ChosenEntry : Type 0 where
 -- the releases got and to be made lie from floor to ceiling, and the latter isn't locked
 unfoldable pub delta_releases : List Flag → Edit → Result Bool Refusal
 delta_releases flags edit = do
-  within ← check (is_within_limits flags edit.got.release && is_within_limits flags edit.made.release) refusals.OutsideRelease
+  within ← check (is_within_limits flags edit.got.release && is_within_limits flags edit.made.release)
+      refusals.OutsideRelease
   check (not (is_locked_release flags edit.made.release)) refusals.LockedRelease
 
 -- the one entry of a login that is let in, whose releases may be used
@@ -181,18 +189,33 @@ fitted flags orders base g = do
 -- the SIDs of the null deltas, where numbers are left for them and the new one
 unfoldable pub nulls_of : Header → List Edit → Edit → Result (List Sid) Refusal
 nulls_of header edits edit = do
-  left ← check (nat_lt (newest header.records + length (skipped header edit.got edit.made (map (λ e. e.made) edits))) 65535) refusals.Full
+  left ← check (nat_lt (newest header.records + length (skipped header edit.got edit.made (map (λ e. e.made) edits)))
+      65535) refusals.Full
   Ok (skipped header edit.got edit.made (map (λ e. e.made) edits))
 
 -- ---- what is made
 
 -- how many lines a plan inserts and deletes, and how many of the base it leaves
 abbrev pub counts_of : Plan → ℕ → Counts
-counts_of p lines = record { inserted = min (added_count p.added) last_count; deleted = length p.deleted; unchanged = lines - length p.deleted }
+counts_of p lines = record {
+  inserted = min (added_count p.added) last_count;
+  deleted = length p.deleted;
+  unchanged =
+      lines - length p.deleted;
+}
 
 abbrev pub entry_delta : DeltaWords → Stamp → Edit → List ℕ → List ℕ → Counts → NewDelta
 entry_delta words stamp edit include exclude counts =
-    record { sid = edit.made; stamp = stamp; include = include; exclude = exclude; mrs = words.mrs; comments = some_lines words.comment; counts = counts }
+    record {
+      sid = edit.made;
+      stamp = stamp;
+      include = include;
+      exclude = exclude;
+      mrs = words.mrs;
+      comments =
+          some_lines words.comment;
+      counts = counts;
+    }
 
 -- the null deltas and the new one are put on the table, each on the one before
 abbrev pub header_with : Header → ℕ → List NewDelta → NewDelta → Header
@@ -208,17 +231,20 @@ count_line n word = decimal n ++ (32 ∷ ended word)
 abbrev pub delta_report : Bool → Sid → Counts → List ℕ
 delta_report silent sid counts =
     if silent then []
-    else ended (sid_text sid) ++ (count_line counts.inserted (codes "inserted") ++ (count_line counts.deleted (codes "deleted") ++ count_line counts.unchanged (codes "unchanged")))
+    else ended (sid_text sid) ++ (count_line counts.inserted (codes "inserted") ++ (count_line counts.deleted
+    (codes "deleted") ++ count_line counts.unchanged (codes "unchanged")))
 
 -- The s-file has the null deltas and the new one, the entry leaves the p-file, and the g-file goes unless it is kept.
 abbrev pub makes_delta : DeltaWords → Stamp → List ℕ → Files → Found → ChosenEntry → List Order → List Sid → StepEffect
 makes_delta words stamp n f found e orders nulls =
     let header = found.parsed.header in
     let lines = base_lines found.parsed.items e.base in
-    let d = entry_delta words stamp e.edit e.base.include e.base.exclude (counts_of (plan orders (length lines)) (length lines)) in
+    let d = entry_delta words stamp e.edit e.base.include e.base.exclude (counts_of (plan orders (length lines))
+    (length lines)) in
     record {
       new = Some (record {
-        s = Some (sealed (header_with header e.base.got (map (null_delta stamp) nulls) d) (places found.parsed.items e.base.set orders (suc (newest header.records + length nulls))));
+        s = Some (sealed (header_with header e.base.got (map (null_delta stamp) nulls) d)
+            (places found.parsed.items e.base.set orders (suc (newest header.records + length nulls))));
         p = pfile_of (remove found.edits (e.number - 1));
         z = None;
         g = kept_g words.keep f.g;
@@ -253,4 +279,11 @@ could_make (Ok effect) = is_empty effect.err || bytes_eq (codes "WARNING [") (ta
 could_make (Err refusal) = has_number delta_checks (number_of refusal)
 
 abbrev pub delta_change : DeltaWords → Stamp → Changing
-delta_change words stamp = record { outcome = delta_outcome words stamp; named = λ n. []; takes = true; silent = false; early = false; could = could_make }
+delta_change words stamp = record {
+  outcome = delta_outcome words stamp;
+  named = λ n. [];
+  takes = true;
+  silent = false;
+  early = false;
+  could = could_make;
+}

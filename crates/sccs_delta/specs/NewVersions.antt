@@ -1,5 +1,6 @@
 -- What a delta that is made leaves, version by version: POSIX, delta; sccsfile(4), "Flags", n.
-use Rattle.std.specs.Prelude.{◌≡◌, ℕ, suc, ◌+◌, ◌-◌, ◌<◌, ◌≤◌, true, List, [], length, None, Some, Ok, remove, slice_get}
+use Rattle.std.specs.Prelude.{◌≡◌, ℕ, suc, ◌+◌, ◌-◌, ◌<◌, ◌≤◌, true, List, [], length, None, Some, Ok, remove}
+use Rattle.std.specs.Prelude.{slice_get}
 use Rattle.sccs_disk.specs.Files.{Content}
 use Rattle.sccs_sid.specs.declared.moments.Stamp.{Stamp}
 use Rattle.sccs_history.specs.Applied.{applied, live_serials, newest, version}
@@ -34,7 +35,9 @@ version_text file n = version n file.header.records (lines_of file.items)
 
 -- the text on which a delta is made: what the set of the delta got, with the lists, shows of the file
 abbrev pub base_text : Parsed → Base → List (List ℕ)
-base_text file base = select (applied (record { target = base.got; include = base.include; exclude = base.exclude; cutoff = None }) file.header.records) (lines_of file.items)
+base_text file base = select
+    (applied (record { target = base.got; include = base.include; exclude = base.exclude; cutoff = None })
+    file.header.records) (lines_of file.items)
 
 -- the new delta of an entry, with the counts of its script
 abbrev pub delta_on : DeltaWords → Stamp → Parsed → ChosenEntry → List Order → NewDelta
@@ -50,19 +53,25 @@ pub record IsBaseOf (file : Parsed) (edit : Edit) (base : Base) : Type 0 where
   -- without lists it is the version got
   pub alone : edit.include ≡ [] → edit.exclude ≡ [] → base_text file base ≡ version_text file base.got
 
--- A delta, with null deltas before it, is put on a file: it is the newest one, live, with the SID to be made, and its version is what
+-- A delta, with null deltas before it, is put on a file: it is the newest one, live, with the SID to be made, and its
+-- version is what
 -- the script makes of the base; a null delta's version is that of the delta got; all older versions stay.
 pub record AddsVersions (before after : Parsed) (edit : Edit) (base : Base) (orders : List Order) : Type 0 where
   pub newer : newest before.header.records < newest after.header.records
   pub sid : serial_of after.header.records edit.made ≡ Some (newest after.header.records)
-  pub added_live : (k : ℕ) → newest before.header.records < k → k ≤ newest after.header.records → has (live_serials after.header.records) k ≡ true
-  pub live : (m : ℕ) → m ≤ newest before.header.records → has (live_serials after.header.records) m ≡ has (live_serials before.header.records) m
+  pub added_live : (k : ℕ) → newest before.header.records < k → k ≤ newest after.header.records
+      → has (live_serials after.header.records) k ≡ true
+  pub live : (m : ℕ) → m ≤ newest before.header.records → has (live_serials after.header.records) m ≡ has
+      (live_serials before.header.records) m
   pub own : version_text after (newest after.header.records) ≡ apply orders (base_text before base)
-  pub nulls : (k : ℕ) → newest before.header.records < k → k < newest after.header.records → version_text after k ≡ version_text before base.got
+  pub nulls : (k : ℕ) → newest before.header.records < k → k < newest after.header.records
+      → version_text after k ≡ version_text before base.got
   pub others : (m : ℕ) → m ≤ newest before.header.records → version_text after m ≡ version_text before m
 
--- What a delta's step did: the file and the entries that were there, the entry and the script, and the file that is there then.
-pub record MakesVersions (words : DeltaWords) (stamp : Stamp) (input : List ℕ) (f : Files) (old : Content) (effect : StepEffect) : Type 0 where
+-- What a delta's step did: the file and the entries that were there, the entry and the script, and the file that is
+-- there then.
+pub record MakesVersions (words : DeltaWords) (stamp : Stamp) (input : List ℕ) (f : Files) (old : Content)
+    (effect : StepEffect) : Type 0 where
   pub before : Parsed
   pub edits : List Edit
   pub entry : ChosenEntry
@@ -75,10 +84,19 @@ pub record MakesVersions (words : DeltaWords) (stamp : Stamp) (input : List ℕ)
   pub base : IsBaseOf before entry.edit entry.base
   pub script : orders_of input ≡ Ok orders
   -- null deltas and the new delta are put on the table, and users, flags and description stay
-  pub header : after.header ≡ with_nulls before.header entry.base.got (null_deltas stamp (skipped_by before.header edits entry.edit)) (delta_on words stamp before entry orders)
-  pub serial : newest after.header.records ≡ suc (newest before.header.records + length (skipped_by before.header edits entry.edit))
+  pub header : after.header ≡ with_nulls before.header entry.base.got
+      (null_deltas stamp (skipped_by before.header edits entry.edit)) (delta_on words stamp before entry orders)
+  pub serial : newest after.header.records ≡ suc (newest before.header.records + length
+      (skipped_by before.header edits entry.edit))
   -- the new s-file reads as this file, and the entry leaves the p-file
-  pub files : effect.new ≡ Some (record { s = Some (sealed after.header after.items); p = pfile_of (remove edits (entry.number - 1)); z = None; g = kept_g words.keep f.g; l = f.l })
+  pub files : effect.new ≡ Some
+      (record {
+        s = Some (sealed after.header after.items);
+        p = pfile_of (remove edits (entry.number - 1));
+        z = None;
+        g = kept_g words.keep f.g;
+        l = f.l;
+      })
   pub reads : IsSFile (sealed after.header after.items).bytes after.header after.items
   pub left : Agrees after.header.records (remove edits (entry.number - 1))
   pub versions : AddsVersions before after entry.edit entry.base orders

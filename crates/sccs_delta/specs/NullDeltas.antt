@@ -36,4 +36,5 @@ serial_behind header got nulls = suc (newest (with_deltas header got nulls).reco
 
 -- the lines of a body with those of its script
 abbrev pub lines_with : Header → ℕ → List NewDelta → NewDelta → List Item → List Order → List HistoryLine
-lines_with header got nulls d items orders = lines_of (places items (base_set header.records got d) orders (serial_behind header got nulls))
+lines_with header got nulls d items orders = lines_of (places items (base_set header.records got d) orders
+    (serial_behind header got nulls))

@@ -1,5 +1,6 @@
 -- What the parts of a delta answer before its files are written.
-use Rattle.std.specs.Prelude.{◌≡◌, ℕ, ◌-◌, Bool, true, not, ◌||◌, List, length, Option, Some, slice_get, Result, Ok, Err}
+use Rattle.std.specs.Prelude.{◌≡◌, ℕ, ◌-◌, Bool, true, not, ◌||◌, List, length, Option, Some, slice_get, Result, Ok}
+use Rattle.std.specs.Prelude.{Err}
 use Rattle.std.specs.List.{list_any}
 use Rattle.sccs_disk.specs.Files.{Content}
 use Rattle.sccs_sid.specs.Reading.{◌>>=◌}
@@ -45,7 +46,8 @@ script_refusal faults.Memory = Memory
 -- the entry that is found, with its base; of want of memory nothing is said
 abbrev pub FindsEntry : DeltaWords → Stamp → Header → List Edit → Result Chosen StepFault → Type 0
 FindsEntry words stamp header edits (Ok c) =
-    (edit : Edit) × (slice_get edits (c.number - 1) ≡ Some edit) × (chosen_entry words stamp header edits ≡ Ok (record { number = c.number; edit = edit; base = c.base }))
+    (edit : Edit) × (slice_get edits (c.number - 1) ≡ Some edit) × (chosen_entry words stamp header edits ≡ Ok
+    (record { number = c.number; edit = edit; base = c.base }))
 FindsEntry words stamp header edits (Err (Refused refusal)) = chosen_entry words stamp header edits ≡ Err refusal
 FindsEntry words stamp header edits (Err Memory) = Unit {0}
 FindsEntry words stamp header edits (Err DiskFault) = Unit {0}
@@ -63,7 +65,8 @@ judged_script flags orders found = do
 pub record FindsBase (orders : List Order) (base : List (List ℕ)) (g : Option Content) (found : Found) : Type 0 where
   pub lines : found.lines ≡ length base
   pub keyword : checked_script orders (length base) ≡ Ok tt → found.keyword ≡ list_any has_keyword (apply orders base)
-  pub differs : checked_script orders (length base) ≡ Ok tt → is_short g ≡ true → or_differs found.differs ≡ compared g (apply orders base)
+  pub differs : checked_script orders (length base) ≡ Ok tt → is_short g ≡ true → or_differs found.differs ≡ compared g
+      (apply orders base)
 
 -- the same, or no fault of the file
 abbrev pub ReadsBase : List Order → List (List ℕ) → Option Content → Result Found StepFault → Type 0
@@ -98,8 +101,10 @@ script_fits flags mrs orders base g = fitted flags orders base g >>= λ fits. mr
 
 -- the entry that is found and the orders of the script; of want of memory nothing is said
 abbrev pub FindsAsked : DeltaWords → Stamp → Header → List Edit → List ℕ → Result Asked StepFault → Type 0
-FindsAsked words stamp header edits i (Ok a) = FindsEntry words stamp header edits (Ok a.chosen) × (or_script_fault (orders_of i) ≡ Ok a.script)
-FindsAsked words stamp header edits i (Err (Refused refusal)) = (chosen_entry words stamp header edits >>= λ e. or_script_fault (orders_of i)) ≡ Err refusal
+FindsAsked words stamp header edits i (Ok a) = FindsEntry words stamp header edits (Ok a.chosen)
+    × (or_script_fault (orders_of i) ≡ Ok a.script)
+FindsAsked words stamp header edits i (Err (Refused refusal)) = (chosen_entry words stamp header edits
+    >>= λ e. or_script_fault (orders_of i)) ≡ Err refusal
 FindsAsked words stamp header edits i (Err Memory) = Unit {0}
 FindsAsked words stamp header edits i (Err DiskFault) = Unit {0}
 FindsAsked words stamp header edits i (Err ReadFault) = ⊥

@@ -1,5 +1,6 @@
 -- Calls of delta on one s-file, one after the other, and the text that each serial gets from the scripts.
-use Rattle.std.specs.Prelude.{◌≡◌, ℕ, suc, ◌+◌, ◌≤◌, nat_le, nat_lt, true, ◌&&◌, List, [], ◌∷◌, length, Option, None, Some, option_and_then, unwrap_or, Result, Ok, Err, if◌then◌else◌}
+use Rattle.std.specs.Prelude.{◌≡◌, ℕ, suc, ◌+◌, ◌≤◌, nat_le, nat_lt, true, ◌&&◌, List, [], ◌∷◌, length, Option, None}
+use Rattle.std.specs.Prelude.{Some, option_and_then, unwrap_or, Result, Ok, Err, if◌then◌else◌}
 use Rattle.sccs_base.specs.Login.{IsLogin}
 use Rattle.sccs_disk.specs.Files.{Content}
 use Rattle.sccs_sid.specs.Moment.{IsMoment}
@@ -26,7 +27,8 @@ use Rattle.sccs_delta.specs.NullDeltas.{skipped_by}
 
 -- ---- calls
 
--- a call of delta, with the p-file, the g-file and the l-file that it finds; commands that leave the s-file may have come between
+-- a call of delta, with the p-file, the g-file and the l-file that it finds; commands that leave the s-file may have
+-- come between
 pub record DeltaCall : Type 0 where
   pub words : DeltaWords
   pub stamp : Stamp
@@ -83,12 +85,15 @@ call_read s c = do
 abbrev pub serial_made : CallRead → ℕ
 serial_made r = suc (newest r.file.header.records + length (skipped_by r.file.header r.edits r.entry.edit))
 
--- The text on which its delta is made: without lists that of the delta got; else what the set of the delta got, with the lists, shows
+-- The text on which its delta is made: without lists that of the delta got; else what the set of the delta got, with
+-- the lists, shows
 -- of the s-file.
 abbrev pub replayed_base : Texts → CallRead → List (List ℕ)
-replayed_base texts r = if is_empty r.entry.edit.include && is_empty r.entry.edit.exclude then texts r.entry.base.got else base_text r.file r.entry.base
+replayed_base texts r = if is_empty r.entry.edit.include && is_empty r.entry.edit.exclude then texts r.entry.base.got
+    else base_text r.file r.entry.base
 
--- The texts with those of its deltas: a null delta has the text of the delta got, and the new delta what the script makes of its base.
+-- The texts with those of its deltas: a null delta has the text of the delta got, and the new delta what the script
+-- makes of its base.
 abbrev pub with_texts : Texts → CallRead → Texts
 with_texts texts r n =
     if nat_le n (newest r.file.header.records) then texts n
@@ -104,12 +109,15 @@ texts_after texts (Ok effect) (Ok r) = with_texts texts r
 -- the texts behind calls on a name, by those before them
 abbrev pub replayed_calls : List ℕ → Content → Texts → List DeltaCall → Texts
 replayed_calls n s texts [] = texts
-replayed_calls n s texts (c ∷ calls) = replayed_calls n (s_behind s (call_outcome n s c)) (texts_after texts (call_outcome n s c) (call_read s c)) calls
+replayed_calls n s texts (c ∷ calls) = replayed_calls n (s_behind s (call_outcome n s c))
+    (texts_after texts (call_outcome n s c) (call_read s c)) calls
 
--- The s-file behind calls on a file can be read, the version of each live serial is its replay from the versions at the start, and
+-- The s-file behind calls on a file can be read, the version of each live serial is its replay from the versions at the
+-- start, and
 -- each serial that was there keeps its version.
 pub record ReplaysVersions (n : List ℕ) (s : Content) (file : Parsed) (calls : List DeltaCall) : Type 0 where
   pub last : Parsed
   pub reads : IsSFile (s_after n s calls).bytes last.header last.items
-  pub versions : (m : ℕ) → has (live_serials last.header.records) m ≡ true → version_text last m ≡ replayed_calls n s (version_text file) calls m
+  pub versions : (m : ℕ) → has (live_serials last.header.records) m ≡ true → version_text last m ≡ replayed_calls n s
+      (version_text file) calls m
   pub stay : (m : ℕ) → m ≤ newest file.header.records → version_text last m ≡ version_text file m

@@ -8,7 +8,8 @@ use Rattle.sccs_script.specs.Commands.{HasNumbers}
 
 -- the set of deltas on which a new delta is made: that of the delta got, with the lists of its entry
 abbrev pub base_set : List Record → ℕ → NewDelta → List ℕ
-base_set records on d = applied (record { target = on; include = d.include; exclude = d.exclude; cutoff = None }) records
+base_set records on d = applied (record { target = on; include = d.include; exclude = d.exclude; cutoff = None })
+    records
 
 -- the lines that an order names are in order
 abbrev pub IsOrdered : Order → Type 0

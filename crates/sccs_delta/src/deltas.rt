@@ -34,7 +34,8 @@ fn hear<I: Source, D: Disk>(
     input: &mut I,
     disk: &mut D,
 ) -> Result<Bytes, StepFault>
-    ensures hears { (i : List ℕ) → I.left input.old ≡ Some i → IfSome (seen (D.told disk.old)) (λ (v : View). HearsScript i (v name.now) result) }
+    ensures hears { (i : List ℕ) → I.left input.old ≡ Some i → IfSome (seen (D.told disk.old))
+        (λ (v : View). HearsScript i (v name.now) result) }
     ensures checks { RefusesWithin delta_checks result }
     ensures same { D.told disk.new ≡ D.told disk.old }
     ensures heard { I.faults input.old ≤ I.faults input.new }

@@ -148,7 +148,8 @@ pub fn header_of(
     requires moment { IsMoment stamp.now.moment }
     requires sids { AllByRecursion IsSid nulls.now }
     requires edit { IsEdit edit.now }
-    ensures value { IfOk result (λ h. h ≡ header_with header on (map (null_delta stamp.now) nulls.now) (entry_delta words.now stamp.now edit.now include exclude counts)) }
+    ensures value { IfOk result (λ h. h ≡ header_with header on (map (null_delta stamp.now) nulls.now)
+        (entry_delta words.now stamp.now edit.now include exclude counts)) }
     ensures spelled { IfOk result IsSpelled }
 {
     let delta = new_delta(alloc, words, stamp, edit, include, exclude, counts)?;

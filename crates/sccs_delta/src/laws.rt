@@ -1,4 +1,5 @@
-ghost use Rattle.std.specs.Prelude.{◌≡◌, ◌+◌, ◌<◌, ◌≤◌, ℕ, suc, true, List, [], Ok, None, Some, length, remove, slice_get};
+ghost use Rattle.std.specs.Prelude.{◌≡◌, ◌+◌, ◌<◌, ◌≤◌, ℕ, suc, true, List, [], Ok, None, Some, length, remove};
+ghost use Rattle.std.specs.Prelude.{slice_get};
 ghost use Rattle.std.specs.List.{AllByRecursion};
 ghost use Rattle.sccs_base.specs.Login.{IsLogin};
 ghost use Rattle.sccs_disk.specs.Files.{Content};
@@ -39,9 +40,12 @@ ghost use Rattle.sccs_delta.specs.Versions.{IsOrdered, base_set};
 /// What a script's plan makes of its base is what the script makes of it. A script that fits a text fits a
 /// longer one, and has the same plan for it; so a plan can be made before the lines of the base are counted.
 pub fn results_by_plan()
-    ensures result { (orders : List Order) (text : List (List ℕ)) → result_of (plan orders (length text)) text ≡ apply orders text }
-    ensures fits { (orders : List Order) (count more : ℕ) → AllByRecursion IsOrdered orders → ranged orders count ≡ Ok tt → ranged orders (count + more) ≡ Ok tt }
-    ensures longer { (orders : List Order) (count more : ℕ) → AllByRecursion IsOrdered orders → ranged orders count ≡ Ok tt → plan orders (count + more) ≡ plan orders count }
+    ensures result { (orders : List Order) (text : List (List ℕ)) → result_of (plan orders (length text)) text
+        ≡ apply orders text }
+    ensures fits { (orders : List Order) (count more : ℕ) → AllByRecursion IsOrdered orders
+        → ranged orders count ≡ Ok tt → ranged orders (count + more) ≡ Ok tt }
+    ensures longer { (orders : List Order) (count more : ℕ) → AllByRecursion IsOrdered orders
+        → ranged orders count ≡ Ok tt → plan orders (count + more) ≡ plan orders count }
 {}
 
 /// A new delta's version is what its script makes of the base, that is of the version got with the delta's lists;
@@ -49,11 +53,13 @@ pub fn results_by_plan()
 pub fn versions_through_deltas()
     ensures own { (records : List Record) (on : ℕ) (d : NewDelta) (items : List Item) (orders : List Order)
         → IsTable records → GoesOn (live_serials records) [] items
-        → version (suc (newest records)) (with_record records on d) (lines_of (places items (base_set records on d) orders (suc (newest records))))
+        → version (suc (newest records)) (with_record records on d)
+        (lines_of (places items (base_set records on d) orders (suc (newest records))))
         ≡ apply orders (select (base_set records on d) (lines_of items)) }
     ensures others { (records : List Record) (on m : ℕ) (d : NewDelta) (items : List Item) (orders : List Order)
         → IsTable records → GoesOn (live_serials records) [] items → m ≤ newest records
-        → version m (with_record records on d) (lines_of (places items (base_set records on d) orders (suc (newest records))))
+        → version m (with_record records on d) (lines_of (places items (base_set records on d) orders
+        (suc (newest records))))
         ≡ version m records (lines_of items) }
 {}
 
@@ -61,13 +67,19 @@ pub fn versions_through_deltas()
 /// entry's delta on the last of them: the header keeps the rules, and has a spelling where it had one.
 /// sccsfile(4), "Flags", n.
 pub fn null_deltas_fit()
-    ensures rules { (header : Header) (edits : List Edit) (place number : ℕ) (edit : Edit) (base : Base) (words : DeltaWords) (stamp : Stamp) (counts : Counts)
-        → IsHeader header → Agrees header.records edits → slice_get edits place ≡ Some edit → entry_base header.records number edit ≡ Ok base
+    ensures rules { (header : Header) (edits : List Edit) (place number : ℕ) (edit : Edit) (base : Base)
+        (words : DeltaWords) (stamp : Stamp) (counts : Counts)
+        → IsHeader header → Agrees header.records edits → slice_get edits place ≡ Some edit
+        → entry_base header.records number edit ≡ Ok base
         → newest header.records + length (skipped_by header edits edit) < 65535
-        → IsHeader (with_nulls header base.got (null_deltas stamp (skipped_by header edits edit)) (entry_delta words stamp edit base.include base.exclude counts)) }
-    ensures spelled { (header : Header) (edits : List Edit) (edit : Edit) (base : Base) (words : DeltaWords) (stamp : Stamp) (counts : Counts)
-        → IsSpelled header → IsEdit edit → IsMoment stamp.moment → IsLogin stamp.login → AreLines words.mrs → AreLines words.comment
-        → IsSpelled (with_nulls header base.got (null_deltas stamp (skipped_by header edits edit)) (entry_delta words stamp edit base.include base.exclude counts)) }
+        → IsHeader (with_nulls header base.got (null_deltas stamp (skipped_by header edits edit))
+        (entry_delta words stamp edit base.include base.exclude counts)) }
+    ensures spelled { (header : Header) (edits : List Edit) (edit : Edit) (base : Base) (words : DeltaWords)
+        (stamp : Stamp) (counts : Counts)
+        → IsSpelled header → IsEdit edit → IsMoment stamp.moment → IsLogin stamp.login → AreLines words.mrs
+        → AreLines words.comment
+        → IsSpelled (with_nulls header base.got (null_deltas stamp (skipped_by header edits edit))
+        (entry_delta words stamp edit base.include base.exclude counts)) }
 {}
 
 /// The entries that a delta leaves agree with the table that has its null deltas and the delta: no null delta has
@@ -75,29 +87,39 @@ pub fn null_deltas_fit()
 pub fn left_entries_agree()
     ensures { (stamp : Stamp) (header : Header) (got : ℕ) (edits : List Edit) (place : ℕ) (edit : Edit) (d : NewDelta)
         → Agrees header.records edits → slice_get edits place ≡ Some edit → d.sid ≡ edit.made
-        → Agrees (with_nulls header got (null_deltas stamp (skipped_by header edits edit)) d).records (remove edits place) }
+        → Agrees (with_nulls header got (null_deltas stamp (skipped_by header edits edit)) d).records
+        (remove edits place) }
 {}
 
 /// Behind null deltas a new delta's version is what its script makes of the base, that is of the version got
 /// with the delta's lists. Each null delta's version is that of the delta got, on which the first of them is
 /// made, and no other version changes.
 pub fn versions_through_null_deltas()
-    ensures own { (stamp : Stamp) (header : Header) (got : ℕ) (sids : List Sid) (d : NewDelta) (items : List Item) (orders : List Order)
-        → IsTable header.records → GoesOn (live_serials header.records) [] items → newest header.records + length sids < 65535
+    ensures own { (stamp : Stamp) (header : Header) (got : ℕ) (sids : List Sid) (d : NewDelta) (items : List Item)
+        (orders : List Order)
+        → IsTable header.records → GoesOn (live_serials header.records) [] items
+        → newest header.records + length sids < 65535
         → AllByRecursion (λ n. has (live_serials header.records) n ≡ true) d.include
         → AllByRecursion (λ n. has (live_serials header.records) n ≡ true) d.exclude
-        → version (serial_behind header got (null_deltas stamp sids)) (with_nulls header got (null_deltas stamp sids) d).records
+        → version (serial_behind header got (null_deltas stamp sids)) (with_nulls header got (null_deltas stamp sids)
+        d).records
         (lines_with header got (null_deltas stamp sids) d items orders)
         ≡ apply orders (select (base_set header.records got d) (lines_of items)) }
-    ensures nulls { (stamp : Stamp) (header : Header) (got : ℕ) (sids : List Sid) (d : NewDelta) (items : List Item) (orders : List Order)
-        → IsTable header.records → GoesOn (live_serials header.records) [] items → newest header.records + length sids < 65535
+    ensures nulls { (stamp : Stamp) (header : Header) (got : ℕ) (sids : List Sid) (d : NewDelta) (items : List Item)
+        (orders : List Order)
+        → IsTable header.records → GoesOn (live_serials header.records) [] items
+        → newest header.records + length sids < 65535
         → (k : ℕ) → newest header.records < k → k < serial_behind header got (null_deltas stamp sids)
-        → version k (with_nulls header got (null_deltas stamp sids) d).records (lines_with header got (null_deltas stamp sids) d items orders)
+        → version k (with_nulls header got (null_deltas stamp sids) d).records
+        (lines_with header got (null_deltas stamp sids) d items orders)
         ≡ version got header.records (lines_of items) }
-    ensures others { (stamp : Stamp) (header : Header) (got : ℕ) (sids : List Sid) (d : NewDelta) (items : List Item) (orders : List Order)
-        → IsTable header.records → GoesOn (live_serials header.records) [] items → newest header.records + length sids < 65535
+    ensures others { (stamp : Stamp) (header : Header) (got : ℕ) (sids : List Sid) (d : NewDelta) (items : List Item)
+        (orders : List Order)
+        → IsTable header.records → GoesOn (live_serials header.records) [] items
+        → newest header.records + length sids < 65535
         → (m : ℕ) → m ≤ newest header.records
-        → version m (with_nulls header got (null_deltas stamp sids) d).records (lines_with header got (null_deltas stamp sids) d items orders)
+        → version m (with_nulls header got (null_deltas stamp sids) d).records
+        (lines_with header got (null_deltas stamp sids) d items orders)
         ≡ version m header.records (lines_of items) }
 {}
 

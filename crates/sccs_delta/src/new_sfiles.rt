@@ -1,4 +1,5 @@
-ghost use Rattle.std.specs.Prelude.{◌≡◌, ◌≢◌, ◌<◌, ◌≤◌, ◌+◌, ◌-◌, ℕ, suc, List, [], Some, Ok, Err, All, IfOk, length, map, slice_get};
+ghost use Rattle.std.specs.Prelude.{◌≡◌, ◌≢◌, ◌<◌, ◌≤◌, ◌+◌, ◌-◌, ℕ, suc, List, [], Some, Ok, Err, All, IfOk, length};
+ghost use Rattle.std.specs.Prelude.{map, slice_get};
 ghost use Rattle.std.specs.List.{AllByRecursion};
 ghost use Rattle.sccs_base.specs.Constants.{file_limit};
 ghost use Rattle.sccs_script_laws.specs.Places.{told_behind};
@@ -116,7 +117,8 @@ fn sfile_with(
     ensures makes { IfOk result (IsSfileOf words.now stamp.now front.header edit.now base script.now lines nulls.now) }
     ensures told { (file : List ℕ) (items : List Item) → IsBody (Some file) front base.set file items
         → lines ≡ length (base_lines items base)
-        → IfOk result (λ s. CopyComes base_splicing file (items_owed s.copying.filter.splicer (told_behind base.set [] items)) s.copying) }
+        → IfOk result (λ s. CopyComes base_splicing file (items_owed s.copying.filter.splicer
+        (told_behind base.set [] items)) s.copying) }
     ensures name { IfOk result (λ s. name_read s.copying.items ≡ name.now) }
     ensures spelled { IfOk result (λ s. IsSpelled s.header) }
     ensures sid { IfOk result (λ s. IsSid s.sid) }
@@ -167,7 +169,8 @@ pub fn new_sfile(
         → MakesSfile words.now stamp.now front.header edits.now e chosen.base script.now lines result }
     ensures told { (file : List ℕ) (items : List Item) → IsBody (Some file) front chosen.base.set file items
         → lines ≡ length (base_lines items chosen.base)
-        → IfOk result (λ s. CopyComes base_splicing file (items_owed s.copying.filter.splicer (told_behind chosen.base.set [] items)) s.copying) }
+        → IfOk result (λ s. CopyComes base_splicing file (items_owed s.copying.filter.splicer
+        (told_behind chosen.base.set [] items)) s.copying) }
     ensures name { IfOk result (λ s. name_read s.copying.items ≡ name.now) }
     ensures spelled { IfOk result (λ s. IsSpelled s.header) }
     ensures sid { IfOk result (λ s. IsSid s.sid) }

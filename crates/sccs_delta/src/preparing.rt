@@ -1,4 +1,5 @@
-ghost use Rattle.std.specs.Prelude.{◌≡◌, ◌<◌, ◌≤◌, ◌-◌, ◌^◌, ℕ, Bool, List, [], true, Some, Ok, All, IfOk, IfSome, OnOk, Option, drop, length, remove, slice_get};
+ghost use Rattle.std.specs.Prelude.{◌≡◌, ◌<◌, ◌≤◌, ◌-◌, ◌^◌, ℕ, Bool, List, [], true, Some, Ok, All, IfOk, IfSome};
+ghost use Rattle.std.specs.Prelude.{OnOk, Option, drop, length, remove, slice_get};
 ghost use Rattle.std.specs.List.{AllByRecursion, list_any};
 ghost use Rattle.std.specs.Str.{bytes_eq};
 ghost use Rattle.sccs_base.specs.Constants.{file_limit};
@@ -30,7 +31,8 @@ ghost use Rattle.sccs_changes.specs.Stops.{IsFirmPrepared, SettlesEntries};
 ghost use Rattle.sccs_versions.specs.Coming.{IsBody};
 ghost use Rattle.sccs_copies.specs.BaseSplicing.{base_splicing};
 ghost use Rattle.sccs_copies.specs.Copies.{CopyComes};
-ghost use Rattle.sccs_delta.specs.DeltaStep.{base_lines, could_make, delta_checks, delta_outcome, delta_report, nulls_of};
+ghost use Rattle.sccs_delta.specs.DeltaStep.{base_lines, could_make, delta_checks, delta_outcome, delta_report};
+ghost use Rattle.sccs_delta.specs.DeltaStep.{nulls_of};
 ghost use Rattle.sccs_changes.specs.Reports.{warning};
 ghost use Rattle.sccs_copies.specs.Examining.{has_keyword};
 ghost use Rattle.sccs_delta.specs.Writing.{IsDeltaPlan, MakesDelta, WritesDelta, WritesX, script_checked};
@@ -113,11 +115,13 @@ fn drop_entry<D: Disk>(
     requires edits { All IsEdit edits }
     requires some { 0 < number }
     requires there { number ≤ length edits }
-    ensures entries { IfOk result (λ new. PreparesEntries name.now (remove edits (number - 1)) new (D.told disk.old) (D.told disk.new)) }
+    ensures entries { IfOk result (λ new. PreparesEntries name.now (remove edits (number - 1)) new (D.told disk.old)
+        (D.told disk.new)) }
     ensures renewed { IfOk result (λ new. IsRenewed new) }
     ensures moves { Moves (bytes_eq (q_file name.now)) (λ v. v) (seen (D.told disk.old)) (seen (D.told disk.new)) }
     ensures touches { TouchesOnly (bytes_eq (q_file name.now)) (D.told disk.old) (D.told disk.new) }
-    ensures firm { IfOk result (λ new. OnReplace new (Leaves (IsFirm (q_file name.now)) (D.told disk.old) (D.told disk.new))) }
+    ensures firm { IfOk result (λ new. OnReplace new (Leaves (IsFirm (q_file name.now)) (D.told disk.old)
+        (D.told disk.new))) }
     ensures checks { RefusesWithin [] result }
     ensures causes { ChangesDisk D.faults disk.old disk.new result }
 {
@@ -149,7 +153,8 @@ fn write_files<D: Disk>(
     requires there { number ≤ length edits }
     ensures told { (bytes : List ℕ) (items : List Item) → bytes_in (seen (D.told disk.old)) name.now ≡ Some bytes
         → CopyComes base_splicing bytes items file.copying
-        → WritesDelta name.now file.header items (remove edits (number - 1)) keep said.report said.message (D.told disk.old) (D.told disk.new) result }
+        → WritesDelta name.now file.header items (remove edits (number - 1)) keep said.report said.message
+        (D.told disk.old) (D.told disk.new) result }
     ensures moves { Moves (is_working name.now) (λ v. v) (seen (D.told disk.old)) (seen (D.told disk.new)) }
     ensures needs { IsThere (z_file name.now) (D.told disk.old) → IsThere (p_file name.now) (D.told disk.old)
         → IfOk result (λ p. IsReady name.now p (D.told disk.new)) }
@@ -192,10 +197,13 @@ fn make<D: Disk>(
     requires there { chosen.number ≤ length pending.edits }
     requires fits { checked_script script.now found.now.lines ≡ Ok tt }
     requires few { found.now.lines ≤ file_limit }
-    ensures told { (bytes : List ℕ) (items : List Item) (e : Edit) → bytes_in (seen (D.told disk.old)) name.now ≡ Some bytes
-        → IsBody (Some bytes) pending.front chosen.base.set bytes items → slice_get pending.edits (chosen.number - 1) ≡ Some e
+    ensures told { (bytes : List ℕ) (items : List Item) (e : Edit) → bytes_in (seen (D.told disk.old)) name.now
+        ≡ Some bytes
+        → IsBody (Some bytes) pending.front chosen.base.set bytes items → slice_get pending.edits (chosen.number - 1)
+        ≡ Some e
         → found.now.lines ≡ length (base_lines items chosen.base)
-        → MakesDelta (nulls_of pending.front.header pending.edits e) words.now stamp.now name.now pending.front.header items pending.edits (record { number = chosen.number; edit = e; base = chosen.base })
+        → MakesDelta (nulls_of pending.front.header pending.edits e) words.now stamp.now name.now pending.front.header
+        items pending.edits (record { number = chosen.number; edit = e; base = chosen.base })
         script.now found.now.keyword (D.told disk.old) (D.told disk.new) result }
     ensures moves { Moves (is_working name.now) (λ v. v) (seen (D.told disk.old)) (seen (D.told disk.new)) }
     ensures needs { IsThere (z_file name.now) (D.told disk.old) → IsThere (p_file name.now) (D.told disk.old)
@@ -242,12 +250,17 @@ fn prepare_script<D: Disk>(
     requires some { 0 < chosen.number }
     requires there { chosen.number ≤ length pending.edits }
     requires ordered { AllByRecursion (FitsIn (2 ^ 64)) script.now }
-    ensures told { (bytes : List ℕ) (items : List Item) (e : Edit) → bytes_in (seen (D.told disk.old)) name.now ≡ Some bytes
-        → IsBody (Some bytes) pending.front chosen.base.set bytes items → slice_get pending.edits (chosen.number - 1) ≡ Some e
+    ensures told { (bytes : List ℕ) (items : List Item) (e : Edit) → bytes_in (seen (D.told disk.old)) name.now
+        ≡ Some bytes
+        → IsBody (Some bytes) pending.front chosen.base.set bytes items → slice_get pending.edits (chosen.number - 1)
+        ≡ Some e
         → IfSome (seen (D.told disk.old)) (λ (v : View). is_short (v (drop 2 name.now)) ≡ true
-        → MakesDelta (script_checked words.now pending.front.header items pending.edits (record { number = chosen.number; edit = e; base = chosen.base }) script.now (v (drop 2 name.now)))
-        words.now stamp.now name.now pending.front.header items pending.edits (record { number = chosen.number; edit = e; base = chosen.base })
-        script.now (list_any has_keyword (apply script.now (base_lines items chosen.base))) (D.told disk.old) (D.told disk.new) result) }
+        → MakesDelta (script_checked words.now pending.front.header items pending.edits
+        (record { number = chosen.number; edit = e; base = chosen.base }) script.now (v (drop 2 name.now)))
+        words.now stamp.now name.now pending.front.header items pending.edits
+        (record { number = chosen.number; edit = e; base = chosen.base })
+        script.now (list_any has_keyword (apply script.now (base_lines items chosen.base))) (D.told disk.old)
+        (D.told disk.new) result) }
     ensures moves { Moves (is_working name.now) (λ v. v) (seen (D.told disk.old)) (seen (D.told disk.new)) }
     ensures needs { IsThere (z_file name.now) (D.told disk.old) → IsThere (p_file name.now) (D.told disk.old)
         → IfOk result (λ p. IsReady name.now p (D.told disk.new)) }
@@ -286,7 +299,8 @@ pub fn prepare_delta<D: Disk>(
     requires locked { IsThere (z_file name.now) (D.told disk.old) }
     requires moment { IsMoment stamp.now.moment }
     ensures prepares { (out err : Option (List ℕ)) → IfSome (seen (D.told disk.old)) (λ (v : View).
-        Prepares result name.now (delta_outcome words.now stamp.now name.now script.now [] (look (unlocked name.now v) name.now))
+        Prepares result name.now (delta_outcome words.now stamp.now name.now script.now []
+        (look (unlocked name.now v) name.now))
         (world (Some v) out err) (world (seen (D.told disk.new)) out err)) }
     ensures needs { IfOk result (λ p. IsReady name.now p (D.told disk.new)) }
     ensures touches { TouchesOnly (is_working name.now) (D.told disk.old) (D.told disk.new) }

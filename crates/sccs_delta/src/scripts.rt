@@ -1,4 +1,5 @@
-ghost use Rattle.std.specs.Prelude.{◌≡◌, ◌≢◌, ◌≤◌, ◌-◌, ◌^◌, ℕ, List, true, Ok, Err, IfOk, IfSome, OnOk, drop, is_some, min, IsErr};
+ghost use Rattle.std.specs.Prelude.{◌≡◌, ◌≢◌, ◌≤◌, ◌-◌, ◌^◌, ℕ, List, true, Ok, Err, IfOk, IfSome, OnOk, drop, is_some};
+ghost use Rattle.std.specs.Prelude.{min, IsErr};
 ghost use Rattle.std.specs.List.{AllByRecursion};
 ghost use Rattle.sccs_base.specs.Constants.{file_limit};
 ghost use Rattle.sccs_base.specs.Name.{IsSFileName};
@@ -123,8 +124,10 @@ fn read_base<D: Disk>(
 ) -> Result<Found, StepFault>
     requires sfile { IsSFileName name.now }
     requires ordered { AllByRecursion (FitsIn (2 ^ 64)) script.now }
-    ensures told { (file : List ℕ) (items : List Item) → IsBody (bytes_in (seen (D.told disk.old)) name.now) front.now set.now file items
-        → IfSome (seen (D.told disk.old)) (λ (v : View). ReadsBase script.now (select set.now (lines_of items)) (v (drop 2 name.now)) result) }
+    ensures told { (file : List ℕ) (items : List Item) → IsBody (bytes_in (seen (D.told disk.old)) name.now) front.now
+        set.now file items
+        → IfSome (seen (D.told disk.old)) (λ (v : View). ReadsBase script.now (select set.now (lines_of items))
+        (v (drop 2 name.now)) result) }
     ensures few { IfOk result (λ found. found.lines ≤ file_limit) }
     ensures checks { RefusesWithin delta_checks result }
     ensures frame { OnlyReads D.told D.faults disk.old disk.new result }
@@ -192,9 +195,11 @@ pub fn fit<D: Disk>(
 ) -> Result<Found, StepFault>
     requires sfile { IsSFileName name.now }
     requires ordered { AllByRecursion (FitsIn (2 ^ 64)) script.now }
-    ensures told { (file : List ℕ) (items : List Item) → IsBody (bytes_in (seen (D.told disk.old)) name.now) front.now set.now file items
+    ensures told { (file : List ℕ) (items : List Item) → IsBody (bytes_in (seen (D.told disk.old)) name.now) front.now
+        set.now file items
         → IfSome (seen (D.told disk.old)) (λ (v : View). is_short (v (drop 2 name.now)) ≡ true
-        → FitsBy (script_fits front.now.header.flags mrs.now script.now (select set.now (lines_of items)) (v (drop 2 name.now))) script.now (select set.now (lines_of items)) result) }
+        → FitsBy (script_fits front.now.header.flags mrs.now script.now (select set.now (lines_of items))
+        (v (drop 2 name.now))) script.now (select set.now (lines_of items)) result) }
     ensures fits { IfOk result (λ found. checked_script script.now found.lines ≡ Ok tt) }
     ensures few { IfOk result (λ found. found.lines ≤ file_limit) }
     ensures checks { RefusesWithin delta_checks result }

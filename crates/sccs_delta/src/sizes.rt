@@ -63,7 +63,8 @@ fn check_script(script: &[u8]) -> Result<(), StepFault>
 /// Whether the s-file is there, and it, the p-file, the g-file and the script aren't longer than files may be.
 pub fn check_sizes<D: Disk>(disk: &mut D, name: &Name, script: &[u8]) -> Result<(), StepFault>
     requires sfile { IsSFileName name.now }
-    ensures told { IfSome (seen (D.told disk.old)) (λ (v : View). PassesCheck (sizes_checked script.now (look v name.now)) result) }
+    ensures told { IfSome (seen (D.told disk.old)) (λ (v : View). PassesCheck (sizes_checked script.now
+        (look v name.now)) result) }
     ensures checks { RefusesWithin delta_checks result }
     ensures frame { OnlyReads D.told D.faults disk.old disk.new result }
 {

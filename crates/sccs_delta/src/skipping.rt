@@ -1,4 +1,5 @@
-ghost use Rattle.std.specs.Prelude.{◌≡◌, ◌++◌, ◌-◌, ◌&&◌, ◌||◌, ◌==◌, ◌<◌, ℕ, List, false, length, not, replicate, slice_index_or, [], IfOk, OnOk};
+ghost use Rattle.std.specs.Prelude.{◌≡◌, ◌++◌, ◌-◌, ◌&&◌, ◌||◌, ◌==◌, ◌<◌, ℕ, List, false, length, not, replicate};
+ghost use Rattle.std.specs.Prelude.{slice_index_or, [], IfOk, OnOk};
 ghost use Rattle.std.specs.List.{list_any};
 ghost use Rattle.sccs_flags.specs.FlagValues.{has_flag};
 ghost use Rattle.sccs_history.specs.FlagText.{flag_n};

@@ -1,11 +1,13 @@
 -- Models that a call changes: their files, and the names after some of their operations.
-use Rattle.std.proofs.Common.{◌≡◌, ℕ, zero, suc, ◌<◌, ◌≤◌, ◌⊎◌, List, [], ◌∷◌, ◌++◌, length, take, slice_get, Option, None, Some, option_map, inl, inr, refl, ap, ◌∙◌, ⊎_elim, length-append, arith}
+use Rattle.std.proofs.Common.{◌≡◌, ℕ, zero, suc, ◌<◌, ◌≤◌, ◌⊎◌, List, [], ◌∷◌, ◌++◌, length, take, slice_get, Option}
+use Rattle.std.proofs.Common.{None, Some, option_map, inl, inr, refl, ap, ◌∙◌, ⊎_elim, length-append, arith}
 use Rattle.std.proofs.lemmas.Bool.{cases_lt}
 use Rattle.std.proofs.lemmas.List.{take-append-le, take_all}
 use Rattle.sccs_disk.specs.Files.{File, Names, Op, Create, Model, names, names_at, put, apply_operation, names_after}
 use Rattle.sccs_disk.specs.Effects.{change, change_at, pended, created}
 
-after_more : (ops : List Op) (op : Op) (t : Names) → names_after (ops ++ op ∷ []) t ≡ apply_operation op (names_after ops t)
+after_more : (ops : List Op) (op : Op) (t : Names) → names_after (ops ++ op ∷ []) t ≡ apply_operation op
+    (names_after ops t)
 after_more [] op t = refl
 after_more (x ∷ ops) op t = after_more ops op (apply_operation x t)
 
@@ -23,17 +25,22 @@ names_all m = ap (λ ops. names_after ops m.base) (take_all (length m.pending) m
 pub names_past : (m : Model) (j : ℕ) → length m.pending ≤ j → names_at m j ≡ names m
 names_past m j low = ap (λ ops. names_after ops m.base) (take_all j m.pending low)
 
-front_or_all : (ops : List Op) (op : Op) (j : ℕ) → (take j (ops ++ op ∷ []) ≡ take j ops) ⊎ (take j (ops ++ op ∷ []) ≡ ops ++ op ∷ [])
+front_or_all : (ops : List Op) (op : Op) (j : ℕ) → (take j (ops ++ op ∷ []) ≡ take j ops)
+    ⊎ (take j (ops ++ op ∷ []) ≡ ops ++ op ∷ [])
 front_or_all ops op j =
-    ⊎_elim (λ low. inr (take_all j (ops ++ op ∷ []) (omega (arith, length-append ops (op ∷ []), low)))) (λ high. inl (take-append-le j ops (op ∷ []) (omega (arith, high))))
+    ⊎_elim (λ low. inr (take_all j (ops ++ op ∷ []) (omega (arith, length-append ops (op ∷ []), low))))
+    (λ high. inl (take-append-le j ops (op ∷ []) (omega (arith, high))))
     (cases_lt (length ops) j)
 
 -- one operation more: some of those before it are made, or all with it
-pub names_at_pended : (op : Op) (m : Model) (j : ℕ) → (names_at (pended op m) j ≡ names_at m j) ⊎ (names_at (pended op m) j ≡ apply_operation op (names m))
+pub names_at_pended : (op : Op) (m : Model) (j : ℕ) → (names_at (pended op m) j ≡ names_at m j)
+    ⊎ (names_at (pended op m) j ≡ apply_operation op (names m))
 names_at_pended op m j =
-    ⊎_elim (λ e. inl (ap (λ ops. names_after ops m.base) e)) (λ e. inr (ap (λ ops. names_after ops m.base) e ∙ after_more m.pending op m.base)) (front_or_all m.pending op j)
+    ⊎_elim (λ e. inl (ap (λ ops. names_after ops m.base) e)) (λ e. inr (ap (λ ops. names_after ops m.base) e
+    ∙ after_more m.pending op m.base)) (front_or_all m.pending op j)
 
-pub names_at_created : (n : List ℕ) (m : Model) (j : ℕ) → (names_at (created n m) j ≡ names_at m j) ⊎ (names_at (created n m) j ≡ put (names m) n (Some (length m.files)))
+pub names_at_created : (n : List ℕ) (m : Model) (j : ℕ) → (names_at (created n m) j ≡ names_at m j)
+    ⊎ (names_at (created n m) j ≡ put (names m) n (Some (length m.files)))
 names_at_created n m j = names_at_pended (Create n (length m.files)) m j
 
 change_at_length : (files : List File) (p : ℕ) (g : File → File) → length (change_at files p g) ≡ length files
@@ -45,12 +52,14 @@ pub change_length : (files : List File) (p : Option ℕ) (g : File → File) →
 change_length files None g = refl
 change_length files (Some p) g = change_at_length files p g
 
-pub get_changed : (files : List File) (p : ℕ) (g : File → File) → slice_get (change_at files p g) p ≡ option_map g (slice_get files p)
+pub get_changed : (files : List File) (p : ℕ) (g : File → File) → slice_get (change_at files p g) p ≡ option_map g
+    (slice_get files p)
 get_changed [] p g = refl
 get_changed (f ∷ files) zero g = refl
 get_changed (f ∷ files) (suc p) g = get_changed files p g
 
-pub get_kept : (files : List File) (p q : ℕ) (g : File → File) → (p ≡ q → ⊥) → slice_get (change_at files p g) q ≡ slice_get files q
+pub get_kept : (files : List File) (p q : ℕ) (g : File → File) → (p ≡ q → ⊥) → slice_get (change_at files p g) q
+    ≡ slice_get files q
 get_kept [] p q g apart = refl
 get_kept (f ∷ files) zero zero g apart = absurd (apart refl)
 get_kept (f ∷ files) zero (suc q) g apart = refl

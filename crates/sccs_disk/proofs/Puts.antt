@@ -21,7 +21,8 @@ name_cases a b = by_test a b (bytes_eq a b) refl
 pub put_same : {X : Type 0} (t : List ℕ → Option X) (n : List ℕ) (x : Option X) → put t n x n ≡ x
 put_same t n x = ap (λ b. cond b x (t n)) (same_bytes n)
 
-pub put_other : {X : Type 0} (t : List ℕ → Option X) (n k : List ℕ) (x : Option X) → bytes_eq n k ≡ false → put t n x k ≡ t k
+pub put_other : {X : Type 0} (t : List ℕ → Option X) (n k : List ℕ) (x : Option X) → bytes_eq n k ≡ false
+    → put t n x k ≡ t k
 put_other t n k x e = ap (λ b. cond b x (t k)) e
 
 kept : {X : Type 0} (t : List ℕ → Option X) (n k : List ℕ) (b : Bool) → bytes_eq n k ≡ b → cond b (t n) (t k) ≡ t k

@@ -1,5 +1,6 @@
 -- What a call that changes files says: of what the disk tells before and after it, and of its count of faults.
-use Rattle.std.specs.Prelude.{◌≡◌, ◌↔◌, ℕ, ◌+◌, ◌≤◌, ◌⊎◌, List, ◌∷◌, length, Option, None, Some, option_map, Result, IsSome, IsErrOf, IfSome, OnOk, OnErr}
+use Rattle.std.specs.Prelude.{◌≡◌, ◌↔◌, ℕ, ◌+◌, ◌≤◌, ◌⊎◌, List, ◌∷◌, length, Option, None, Some, option_map, Result}
+use Rattle.std.specs.Prelude.{IsSome, IsErrOf, IfSome, OnOk, OnErr}
 use Rattle.sccs_base.specs.Stream.{Rose}
 use Rattle.sccs_base.specs.declared.streams.Failed.{Failed}
 use Rattle.sccs_disk.specs.Files.{Content, View, Model}
@@ -18,17 +19,20 @@ pub record Done (e : Effect) (old new : Told) : Type 0 where
 -- The call failed: nothing changed, or half of it was made.
 pub record Half (e : Effect) (old new : Told) : Type 0 where
   pub view : (seen new ≡ seen old) ⊎ ((v w : View) × (seen old ≡ Some v) × (seen new ≡ Some w) × e.half_view v w)
-  pub model : (m : Model) (past : List Model) → old ≡ Tells m past → (new ≡ old) ⊎ ((m2 : Model) × (new ≡ Tells m2 (m ∷ past)) × e.half m m2)
+  pub model : (m : Model) (past : List Model) → old ≡ Tells m past → (new ≡ old)
+      ⊎ ((m2 : Model) × (new ≡ Tells m2 (m ∷ past)) × e.half m m2)
 
 -- a call that takes no memory
-pub record Changes {T : Type 0} (e : Effect) (old new : Told) (faults faults_after : ℕ) (result : Result T Failed) : Type 0 where
+pub record Changes {T : Type 0} (e : Effect) (old new : Told) (faults faults_after : ℕ)
+    (result : Result T Failed) : Type 0 where
   pub done : OnOk result (Done e old new)
   pub half : OnErr result (Half e old new)
   pub later : faults ≤ faults_after
   pub cause : OnErr result (Rose faults faults_after)
 
 -- a call that takes memory: without it nothing changed
-pub record Writes {T : Type 0} (e : Effect) (old new : Told) (faults faults_after : ℕ) (result : Result T DiskRefusal) : Type 0 where
+pub record Writes {T : Type 0} (e : Effect) (old new : Told) (faults faults_after : ℕ)
+    (result : Result T DiskRefusal) : Type 0 where
   pub done : OnOk result (Done e old new)
   pub half : IsErrOf result fault.Failed → Half e old new
   pub memory : IsErrOf result fault.Memory → new ≡ old

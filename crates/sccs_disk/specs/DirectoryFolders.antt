@@ -27,7 +27,8 @@ none_there : (p : Option ℕ) → None ≡ shown_at [] p
 none_there None = refl
 none_there (Some p) = refl
 
-later_file : (f : File) (files : List File) (p : Option ℕ) → shown_at files p ≡ shown_at (f ∷ files) (option_map (λ q. suc q) p)
+later_file : (f : File) (files : List File) (p : Option ℕ) → shown_at files p ≡ shown_at (f ∷ files)
+    (option_map (λ q. suc q) p)
 later_file f files None = refl
 later_file f files (Some p) = refl
 
@@ -36,15 +37,18 @@ first_or_later : (b : Bool) (f : File) (files : List File) (p : Option ℕ) (o :
 first_or_later true f files p o is = refl
 first_or_later false f files p o is = is ∙ later_file f files p
 
-folder_has : (names : List (Option (List ℕ))) (files : List StoredFile) (q : List ℕ) → get (folder_of names files) q ≡ shown_at (map stored files) (place_of names q)
+folder_has : (names : List (Option (List ℕ))) (files : List StoredFile) (q : List ℕ) → get (folder_of names files) q
+    ≡ shown_at (map stored files) (place_of names q)
 unfolding folder_of
 folder_has [] files q = get-empty (slice_cmp nat_cmp) q
 folder_has (k ∷ names) [] q = get-empty (slice_cmp nat_cmp) q ∙ none_there (place_of (k ∷ names) q)
-folder_has (None ∷ names) (f ∷ files) q = folder_has names files q ∙ later_file (stored f) (map stored files) (place_of names q)
+folder_has (None ∷ names) (f ∷ files) q = folder_has names files q ∙ later_file (stored f) (map stored files)
+    (place_of names q)
 folder_has (Some k ∷ names) (f ∷ files) q =
     get-insert nat_list_cmp_total (folder_of names files) k (stored f).content q
     ∙ (ap (λ test. cond test (Some (stored f).content) (get (folder_of names files) q)) (same_test q k)
-    ∙ first_or_later (bytes_eq k q) (stored f) (map stored files) (place_of names q) (get (folder_of names files) q) (folder_has names files q))
+    ∙ first_or_later (bytes_eq k q) (stored f) (map stored files) (place_of names q) (get (folder_of names files) q)
+    (folder_has names files q))
 
 -- the view of a directory is that of some folder
 pub shown_finite : (d : Directory) → IsFinite (shown (state_of d))

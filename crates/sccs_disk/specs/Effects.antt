@@ -1,5 +1,6 @@
 -- What each call does to the files of a disk, and what it may do to them where it fails.
-use Rattle.std.specs.Prelude.{◌≡◌, ℕ, zero, suc, ◌+◌, true, false, List, [], ◌∷◌, ◌++◌, length, take, drop, Option, None, Some, option_map}
+use Rattle.std.specs.Prelude.{◌≡◌, ℕ, zero, suc, ◌+◌, true, false, List, [], ◌∷◌, ◌++◌, length, take, drop, Option}
+use Rattle.std.specs.Prelude.{None, Some, option_map}
 use Rattle.sccs_disk.specs.Files.{Content, File, View, Op, Create, Rename, Remove, Model, names, put}
 
 -- What a call makes of a view and of a model, and what it may leave of them where it fails.
@@ -59,7 +60,11 @@ appended bytes c = record { bytes = c.bytes ++ bytes; writable = c.writable }
 
 -- these bytes in place of as many from there on
 abbrev pub overwritten : ℕ → List ℕ → Content → Content
-overwritten from bytes c = record { bytes = take from c.bytes ++ bytes ++ drop (from + length bytes) c.bytes; writable = c.writable }
+overwritten from bytes c = record {
+  bytes = take from c.bytes ++ bytes ++ drop (from + length bytes) c.bytes;
+  writable =
+      c.writable;
+}
 
 abbrev pub protected : Content → Content
 protected c = record { bytes = c.bytes; writable = false }
@@ -88,7 +93,12 @@ pended op m = record { files = m.files; base = m.base; pending = m.pending ++ op
 
 -- an empty file more, under a name that isn't there
 abbrev pub created : List ℕ → Model → Model
-created n m = record { files = m.files ++ loose empty_file ∷ []; base = m.base; pending = m.pending ++ Create n (length m.files) ∷ [] }
+created n m = record {
+  files = m.files ++ loose empty_file ∷ [];
+  base = m.base;
+  pending =
+      m.pending ++ Create n (length m.files) ∷ [];
+}
 
 abbrev pub creating : List ℕ → Effect
 creating n = whole_effect (λ v. put v n (Some empty_file)) (created n)

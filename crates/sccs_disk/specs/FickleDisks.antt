@@ -10,4 +10,5 @@ covers d name from count = bytes_eq name d.name && (nat_le from d.at && nat_lt (
 -- From the second time on the byte is one greater, modulo 256.
 abbrev pub read_again : FickleDisk → List ℕ → ℕ → ℕ → List ℕ → List ℕ
 read_again d name from count bytes =
-    cond (covers d name from count && d.was_read) (slice_set bytes (d.at - from) ((slice_index bytes (d.at - from) + 1) % 256)) bytes
+    cond (covers d name from count && d.was_read) (slice_set bytes (d.at - from)
+    ((slice_index bytes (d.at - from) + 1) % 256)) bytes

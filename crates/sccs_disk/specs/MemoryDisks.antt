@@ -36,7 +36,8 @@ disk_failing d = d.failing.items
 abbrev pub IsPlanned : MemoryDisk → ℕ → Type 0
 IsPlanned d call = Contains (disk_failing d) call ⊎ ((disk_room d < call) ⊎ (disk_stop d < call))
 
--- A call counts as one more, and fails exactly by plan, past the room or past the stop, which stay; then nothing changes.
+-- A call counts as one more, and fails exactly by plan, past the room or past the stop, which stay; then nothing
+-- changes.
 pub record GoesByPlan (failed : Type 0) (old new : MemoryDisk) : Type 0 where
   pub planned : failed ↔ IsPlanned old (disk_call new)
   pub still : failed → disk_told new ≡ disk_told old

@@ -1,5 +1,6 @@
 -- The story of a disk in memory, from the calls that were made, and what a stop leaves of it.
-use Rattle.std.specs.Prelude.{◌≡◌, ℕ, ◌+◌, true, List, [], ◌∷◌, ◌++◌, length, map, take, replicate, Option, None, Some, option_map, cond, nat_le}
+use Rattle.std.specs.Prelude.{◌≡◌, ℕ, ◌+◌, true, List, [], ◌∷◌, ◌++◌, length, map, take, replicate, Option, None, Some}
+use Rattle.std.specs.Prelude.{option_map, cond, nat_le}
 use Rattle.std.specs.List.{All}
 use Rattle.std.specs.Ordering.{nat_cmp, eq_by_cmp}
 use Rattle.std.specs.Cmp.Lexicographic.{slice_cmp}
@@ -47,7 +48,11 @@ filling Written bytes = bytes
 filling (Junk b) bytes = replicate (length bytes) b
 
 abbrev pub filled : Fill → op.File → Content
-filled fill f = record { bytes = cond f.firm f.content.bytes (filling fill f.content.bytes); writable = f.content.writable }
+filled fill f = record {
+  bytes = cond f.firm f.content.bytes (filling fill f.content.bytes);
+  writable =
+      f.content.writable;
+}
 
 -- What a stop leaves that makes the first j pending operations.
 abbrev pub left_by_stop : Model → ℕ → Fill → View
@@ -67,7 +72,12 @@ pub record IsSettled (m : Model) : Type 0 where
 
 -- a firm file more, under a name of the base
 abbrev pub with_placed : List ℕ → Content → Model → Model
-with_placed n c m = record { files = m.files ++ firm c ∷ []; base = put m.base n (Some (length m.files)); pending = m.pending }
+with_placed n c m = record {
+  files = m.files ++ firm c ∷ [];
+  base = put m.base n (Some (length m.files));
+  pending =
+      m.pending;
+}
 
 -- what a call makes of the model
 abbrev pub entry_model : Option Change → Model → Model

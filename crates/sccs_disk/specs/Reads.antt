@@ -1,5 +1,6 @@
 -- What reading calls answer, where the view is told.
-use Rattle.std.specs.Prelude.{◌≡◌, ◌↔◌, ℕ, Bool, List, ◌++◌, length, take, drop, Option, None, Some, option_map, IsSome, Contains}
+use Rattle.std.specs.Prelude.{◌≡◌, ◌↔◌, ℕ, Bool, List, ◌++◌, length, take, drop, Option, None, Some, option_map, IsSome}
+use Rattle.std.specs.Prelude.{Contains}
 use Rattle.std.specs.List.{IsDistinct}
 use Rattle.std.specs.Str.{bytes_eq}
 use Rattle.sccs_disk.specs.Files.{Content, View}
@@ -13,7 +14,8 @@ Measures (Some view) name answer = answer ≡ option_map (λ (c : Content). leng
 abbrev pub ReadsFile : Option Content → ℕ → List ℕ → List ℕ → Option ℕ → Type 0
 ReadsFile None from old new answer = (answer ≡ None) × (new ≡ old)
 ReadsFile (Some c) from old new answer =
-    let got = take (length old) (drop from c.bytes) in (answer ≡ Some (length got)) × (new ≡ got ++ drop (length got) old)
+    let got = take (length old) (drop from c.bytes) in (answer ≡ Some (length got))
+    × (new ≡ got ++ drop (length got) old)
 
 abbrev pub Reads : Option View → List ℕ → ℕ → List ℕ → List ℕ → Option ℕ → Type 0
 Reads None name from old new answer = Unit {0}

@@ -2,7 +2,8 @@
 use Rattle.std.specs.Prelude.{◌≡◌, ℕ, ◌<◌, Bool, true, false, List, [], ◌∷◌, ◌++◌, length, None, Some, option_map}
 use Rattle.sccs_disk.specs.Files.{View, Names, Model, names, file_at, put, apply_operation}
 use Rattle.sccs_disk.specs.Files as op
-use Rattle.sccs_disk.specs.Effects.{Effect, change, loose, firm, appended, overwritten, protected, empty_file, creating, appending, overwriting, protecting, syncing, renaming, removing, syncing_names}
+use Rattle.sccs_disk.specs.Effects.{Effect, change, loose, firm, appended, overwritten, protected, empty_file, creating}
+use Rattle.sccs_disk.specs.Effects.{appending, overwriting, protecting, syncing, renaming, removing, syncing_names}
 use Rattle.sccs_disk.specs.declared.changes.StoredFile.{StoredFile}
 use Rattle.sccs_disk.specs.declared.changes.FileChange.{FileChange}
 use Rattle.sccs_disk.specs.declared.changes.FileChange.TheVariants as file

@@ -14,7 +14,8 @@ empty_view name = None
 abbrev pub steady_view : SteadyDisk → View
 steady_view d = shown (state_of d.directory)
 
-pub never_tells : (disk : SteadyDisk) (m : Model) (past : List Model) → Shows (steady_view disk) ≡ Tells m past → IsSane m
+pub never_tells : (disk : SteadyDisk) (m : Model) (past : List Model) → Shows (steady_view disk) ≡ Tells m past
+    → IsSane m
 never_tells disk m past told = cc
 
 view_is : (v w : View) → Some v ≡ Some w → v ≡ w

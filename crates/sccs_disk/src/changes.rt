@@ -36,7 +36,8 @@ pub enum Change {
 
 // writes over as many bytes from a place on; behind the end it adds them
 fn write_over(bytes: &mut Vec<u8>, from: u64, with: &[u8]) -> Result<(), Memory>
-    ensures ok { OnOk result (bytes.new.items ≡ (overwritten from with.now (record { bytes = bytes.old.items; writable = false })).bytes) }
+    ensures ok { OnOk result
+        (bytes.new.items ≡ (overwritten from with.now (record { bytes = bytes.old.items; writable = false })).bytes) }
     ensures err { OnErr result (bytes.new.items ≡ bytes.old.items) }
 {
     let len = bytes.len() as u64;

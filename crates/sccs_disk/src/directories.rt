@@ -1,4 +1,5 @@
-ghost use Rattle.std.specs.Prelude.{◌≡◌, ◌<◌, ◌≤◌, false, Some, length, drop, option_map, is_some, IsTrue, ◌↔◌, vec_len, vec_capacity, IsOk, IfOk, IfSome, OnOk, OnErr};
+ghost use Rattle.std.specs.Prelude.{◌≡◌, ◌<◌, ◌≤◌, false, Some, length, drop, option_map, is_some, IsTrue, ◌↔◌};
+ghost use Rattle.std.specs.Prelude.{vec_len, vec_capacity, IsOk, IfOk, IfSome, OnOk, OnErr};
 ghost use Rattle.sccs_disk.specs.Calls.{HasBytes};
 ghost use Rattle.sccs_disk.specs.Effects.{renamed};
 ghost use Rattle.sccs_disk.specs.Files.{Content, file_at, put};
@@ -34,7 +35,8 @@ impl Directory {
 
     /// The file under a name.
     pub fn find(&self, name: &Name) -> Option<&StoredFile>
-        ensures { option_map (λ (f : _). stored f.now) result ≡ file_at (state_of self.now).files ((state_of self.now).names name.now) }
+        ensures { option_map (λ (f : _). stored f.now) result ≡ file_at (state_of self.now).files
+            ((state_of self.now).names name.now) }
     {
         let place = self.names.place(name)?;
         Some(&self.files[place])
@@ -146,7 +148,8 @@ impl Directory {
     /// The files as a stop leaves them, under the names of another directory.
     pub fn left(&self, alloc: Global, named: &Directory, fill: Fill) -> Result<Directory, Memory>
         requires { length named.now.files.items ≤ length self.now.files.items }
-        ensures files { IfOk result (λ d. (state_of d).files ≡ left_files fill (length named.now.files.items) (state_of self.now).files) }
+        ensures files { IfOk result (λ d. (state_of d).files ≡ left_files fill (length named.now.files.items)
+            (state_of self.now).files) }
         ensures names { IfOk result (λ d. (state_of d).names ≡ (state_of named.now).names) }
     {
         let count = named.files.len();
@@ -180,7 +183,8 @@ impl Directory {
 
     /// The bytes of a file.
     pub fn bytes(&self, name: &Name) -> Option<&[u8]>
-        ensures { option_map (λ (b : _). b.now) result ≡ option_map (λ (c : Content). c.bytes) (shown (state_of self.now) name.now) }
+        ensures { option_map (λ (b : _). b.now) result ≡ option_map (λ (c : Content). c.bytes)
+            (shown (state_of self.now) name.now) }
     {
         let file = self.find(name)?;
         Some(file.bytes.as_slice())

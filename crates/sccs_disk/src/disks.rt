@@ -1,7 +1,8 @@
 ghost use Rattle.std.specs.Prelude.{◌≡◌, ℕ, ◌≤◌, List, Some, length, IfOk, IfSome, OnErr, IsErrOf};
 ghost use Rattle.sccs_base.specs.Stream.{Rose};
 ghost use Rattle.sccs_disk.specs.Calls.{Changes, Writes, Half, Creates, FindsName, IsThere, HasRange};
-ghost use Rattle.sccs_disk.specs.Effects.{creating, appending, overwriting, protecting, syncing, renaming, removing, syncing_names};
+ghost use Rattle.sccs_disk.specs.Effects.{creating, appending, overwriting, protecting, syncing, renaming, removing};
+ghost use Rattle.sccs_disk.specs.Effects.{syncing_names};
 ghost use Rattle.sccs_disk.specs.Files.{View, Model, IsSane, IsFinite};
 ghost use Rattle.sccs_disk.specs.Told.{Told, Tells, seen};
 ghost use Rattle.sccs_disk.specs.Reads.{Measures, Reads, Marks, Lists};

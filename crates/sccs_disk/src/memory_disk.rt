@@ -1,4 +1,6 @@
-ghost use Rattle.std.specs.Prelude.{◌≡◌, ℕ, ◌+◌, ◌<◌, ◌≤◌, ◌⊎◌, ◌↔◌, Bool, true, false, min, List, [], ◌++◌, ◌∷◌, Option, None, Some, Ok, length, take, drop, option_map, is_some, vec_capacity, IsTrue, IsOk, IsErr, IsErrOf, IfOk, IfSome, OnOk, OnErr, Contains, All};
+ghost use Rattle.std.specs.Prelude.{◌≡◌, ℕ, ◌+◌, ◌<◌, ◌≤◌, ◌⊎◌, ◌↔◌, Bool, true, false, min, List, [], ◌++◌, ◌∷◌};
+ghost use Rattle.std.specs.Prelude.{Option, None, Some, Ok, length, take, drop, option_map, is_some, vec_capacity};
+ghost use Rattle.std.specs.Prelude.{IsTrue, IsOk, IsErr, IsErrOf, IfOk, IfSome, OnOk, OnErr, Contains, All};
 ghost use Rattle.sccs_base.specs.Stream.{Rose, one_more};
 ghost use Rattle.sccs_disk.specs.DirectoryStates.{state_of};
 ghost use Rattle.sccs_disk.specs.Files.{Content, View, File, IsSane, put};
@@ -74,7 +76,8 @@ fn note_call(log: &mut Vec<Option<Change>>, call: u64, room: u64)
 
 // the change that adds bytes at the end of a file
 fn append_of(alloc: Global, name: &Name, bytes: &[u8]) -> Result<Change, Memory>
-    ensures { IfOk result (λ c. (old new : Told) → Done (change_effect c) old new → Done (appending name.now bytes.now) old new) }
+    ensures { IfOk result (λ c. (old new : Told) → Done (change_effect c) old new
+        → Done (appending name.now bytes.now) old new) }
 {
     let bytes = bytes.to_vec(alloc)?;
     Ok(Change::File(*name, FileChange::Append(bytes)))
@@ -82,7 +85,8 @@ fn append_of(alloc: Global, name: &Name, bytes: &[u8]) -> Result<Change, Memory>
 
 // the change that writes bytes over as many
 fn write_of(alloc: Global, name: &Name, from: u64, bytes: &[u8]) -> Result<Change, Memory>
-    ensures { IfOk result (λ c. (old new : Told) → Done (change_effect c) old new → Done (overwriting name.now from bytes.now) old new) }
+    ensures { IfOk result (λ c. (old new : Told) → Done (change_effect c) old new
+        → Done (overwriting name.now from bytes.now) old new) }
 {
     let bytes = bytes.to_vec(alloc)?;
     Ok(Change::File(*name, FileChange::WriteAt(from, bytes)))
@@ -91,7 +95,8 @@ fn write_of(alloc: Global, name: &Name, from: u64, bytes: &[u8]) -> Result<Chang
 impl MemoryDisk {
     ghost use Rattle.sccs_disk.specs.Calls.{Changes, HasBytes};
     ghost use Rattle.sccs_disk.specs.Images.{Image};
-    ghost use Rattle.sccs_disk.specs.MemoryDisks.{GoesByPlan, KeepsPlan, disk_told, disk_model, disk_view, disk_after, disk_call, disk_room, disk_stop, disk_failing};
+    ghost use Rattle.sccs_disk.specs.MemoryDisks.{GoesByPlan, KeepsPlan, disk_told, disk_model, disk_view, disk_after};
+    ghost use Rattle.sccs_disk.specs.MemoryDisks.{disk_call, disk_room, disk_stop, disk_failing};
     ghost use Rattle.sccs_disk.specs.MemoryFiles.{left_by_stop, with_placed, IsSettled};
     ghost use Rattle.sccs_disk.specs.States.{shown, empty_state, takes_memory};
     ghost use Rattle.sccs_disk.specs.Told.{Tells};
@@ -143,7 +148,8 @@ impl MemoryDisk {
         ensures done { OnOk result (Done (change_effect change) (disk_told self.old) (disk_told self.new)) }
         ensures err { OnErr result (disk_told self.new ≡ disk_told self.old) }
         ensures sure { takes_memory change ≡ false → IsOk result }
-        ensures before { (calls : ℕ) → calls < length self.old.log.items → disk_after self.new calls ≡ disk_after self.old calls }
+        ensures before { (calls : ℕ) → calls < length self.old.log.items → disk_after self.new calls
+            ≡ disk_after self.old calls }
         ensures plan { KeepsPlan self.old self.new }
         ensures faults { self.new.faults ≡ self.old.faults }
     {
@@ -156,7 +162,8 @@ impl MemoryDisk {
     // a call that changes files, unless there is no memory for it
     fn call(&mut self, change: Result<Change, Memory>) -> Result<(), DiskRefusal>
         ensures plan { GoesByPlan (IsErrOf result DiskRefusal.Failed) self.old self.new }
-        ensures done { OnOk result (IfOk change (λ c. Done (change_effect c) (disk_told self.old) (disk_told self.new))) }
+        ensures done { OnOk result (IfOk change (λ c. Done (change_effect c) (disk_told self.old)
+            (disk_told self.new))) }
         ensures err { OnErr result (disk_told self.new ≡ disk_told self.old) }
         ensures made { OnOk result (IsOk change) }
         ensures sure { IfOk change (λ c. takes_memory c ≡ false → IsErrOf result DiskRefusal.Memory → ⊥) }
@@ -179,7 +186,8 @@ impl MemoryDisk {
     fn call_surely(&mut self, change: Change) -> Result<(), Failed>
         requires { takes_memory change ≡ false }
         ensures plan { GoesByPlan (IsErr result) self.old self.new }
-        ensures changes { Changes (change_effect change) (disk_told self.old) (disk_told self.new) self.old.faults self.new.faults result }
+        ensures changes { Changes (change_effect change) (disk_told self.old) (disk_told self.new) self.old.faults
+            self.new.faults result }
     {
         match self.call(Ok(change)) {
             Ok(()) => Ok(()),
@@ -285,7 +293,8 @@ impl MemoryDisk {
 
 impl Disk for MemoryDisk {
     ghost use Rattle.sccs_disk.specs.Calls.{Half, Creates, FindsName, Changes, Writes, IsThere, HasRange};
-    ghost use Rattle.sccs_disk.specs.Effects.{creating, appending, overwriting, protecting, syncing, renaming, removing, syncing_names};
+    ghost use Rattle.sccs_disk.specs.Effects.{creating, appending, overwriting, protecting, syncing, renaming};
+    ghost use Rattle.sccs_disk.specs.Effects.{removing, syncing_names};
     ghost use Rattle.sccs_disk.specs.MemoryDisks.{GoesByPlan, disk_told, disk_view};
     ghost use Rattle.sccs_disk.specs.MemoryTold.{disk_sane, disk_finite};
     ghost use Rattle.sccs_disk.specs.Reads.{Measures, Marks, Reads, Lists};

@@ -1,4 +1,5 @@
-ghost use Rattle.std.specs.Prelude.{◌≡◌, ◌+◌, ◌<◌, ◌≤◌, List, [], None, Some, length, vec_len, vec_capacity, IfOk, IfSome, OnOk, OnErr};
+ghost use Rattle.std.specs.Prelude.{◌≡◌, ◌+◌, ◌<◌, ◌≤◌, List, [], None, Some, length, vec_len, vec_capacity, IfOk};
+ghost use Rattle.std.specs.Prelude.{IfSome, OnOk, OnErr};
 ghost use Rattle.std.specs.List.{remove};
 ghost use Rattle.sccs_disk.specs.Files.{put, apply_operation, Rename};
 ghost use Rattle.sccs_disk.specs.Places.{AreOnce, once_prop, place_of, names_placed};
@@ -69,7 +70,8 @@ impl NameTable {
     /// Gives a place another name, which leads to no other place any more.
     #[tactic(auto, using(crate::proofs::Places::names_renamed, crate::proofs::Places::once_renamed, crate::proofs::Places::rename_self))]
     pub fn rename(&mut self, from: &Name, to: &Name)
-        ensures names { place_of self.new.names.items ≡ apply_operation (Rename from.now to.now) (place_of self.old.names.items) }
+        ensures names { place_of self.new.names.items ≡ apply_operation (Rename from.now to.now)
+            (place_of self.old.names.items) }
         ensures count { length self.new.names.items ≡ length self.old.names.items }
     {
         if from.is(to) {
@@ -93,7 +95,8 @@ impl NameTable {
     /// A place more, to which the name leads.
     pub fn push(&mut self, name: &Name)
         requires { vec_len self.old.names < vec_capacity self.old.names }
-        ensures names { place_of self.new.names.items ≡ put (place_of self.old.names.items) name.now (Some (length self.old.names.items)) }
+        ensures names { place_of self.new.names.items ≡ put (place_of self.old.names.items) name.now
+            (Some (length self.old.names.items)) }
         ensures count { length self.new.names.items ≡ length self.old.names.items + 1 }
     {
         self.remove(name);

@@ -52,7 +52,8 @@ impl SteadyDisk {
 
     // makes a change
     fn make(&mut self, change: &Change) -> Result<(), DiskRefusal>
-        ensures done { OnOk result (Done (change_effect change.now) (Shows (steady_view self.old)) (Shows (steady_view self.new))) }
+        ensures done { OnOk result (Done (change_effect change.now) (Shows (steady_view self.old))
+            (Shows (steady_view self.new))) }
         ensures err { OnErr result (steady_view self.new ≡ steady_view self.old) }
         ensures memory { IfErr result (λ e. e ≡ DiskRefusal.Memory) }
         ensures sure { takes_memory change.now ≡ false → IsOk result }

@@ -12,16 +12,27 @@ use Rattle.sccs_words.specs.declared.commands.UngetWords.{UngetWords}
 use Rattle.sccs_edit.specs.SactStep.{found_edits, sact_action, sact_step, shows_entries}
 use Rattle.sccs_edit.specs.UngetStep.{unget_change}
 
-kept_by : (heading : Bool) (n : List ℕ) (r : Result (List Edit) Refusal) (d : StepEffect) → (r >>= λ edits. Ok (shows_entries heading n edits)) ≡ Ok d → d.new ≡ None
-kept_by heading n (Ok edits) d is = ap (λ (e : StepEffect). e.new) (let same : shows_entries heading n edits ≡ d = cc in sym same)
+kept_by : (heading : Bool) (n : List ℕ) (r : Result (List Edit) Refusal) (d : StepEffect)
+    → (r >>= λ edits. Ok (shows_entries heading n edits)) ≡ Ok d → d.new ≡ None
+kept_by heading n (Ok edits) d is = ap (λ (e : StepEffect). e.new) (let same : shows_entries heading n edits ≡ d = cc in
+    sym same)
 kept_by heading n (Err refusal) d is = absurd cc
 
-pub step_is : (heading : Bool) (n : List ℕ) (f : Files) → sact_step heading n f ≡ (found_edits f >>= λ edits. Ok (shows_entries heading n edits))
+pub step_is : (heading : Bool) (n : List ℕ) (f : Files) → sact_step heading n f ≡ (found_edits f >>= λ edits.
+    Ok (shows_entries heading n edits))
 unfolding sact_step
 step_is heading n f = refl
 
 pub sact_keeps : (heading : Bool) → KeepsFiles (sact_action heading)
-sact_keeps heading = record { quiet = λ reads n i named f d is. kept_by heading n (found_edits f) d (sym (step_is heading n f) ∙ is); names = λ changes n fits. absurd cc; locked = λ changes locks n i named f d is there g new. absurd cc; pending = λ changes never n i v f d there is. absurd cc }
+sact_keeps heading = record {
+  quiet = λ reads n i named f d is. kept_by heading n (found_edits f) d
+      (sym (step_is heading n f) ∙ is);
+  names = λ changes n fits. absurd cc;
+  locked =
+      λ changes locks n i named f d is there g new. absurd cc;
+  pending = λ changes never n i v f d there is. absurd cc;
+}
 
-pub unget_locked : (words : UngetWords) (stamp : Stamp) (heading : Bool) → (unget_change words stamp heading).could (Err Locked) ≡ true
+pub unget_locked : (words : UngetWords) (stamp : Stamp) (heading : Bool) → (unget_change words stamp heading).could
+    (Err Locked) ≡ true
 unget_locked words stamp heading = refl

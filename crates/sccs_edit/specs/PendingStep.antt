@@ -1,5 +1,6 @@
 -- What tell and check do: whether a name has pending edits, or all of them. They read the p-file alone.
-use Rattle.std.specs.Prelude.{◌≡◌, ℕ, Bool, true, false, ◌&&◌, not, List, [], ◌∷◌, drop, Option, None, Some, Result, Ok, Err, IfSome, if◌then◌else◌}
+use Rattle.std.specs.Prelude.{◌≡◌, ℕ, Bool, true, false, ◌&&◌, not, List, [], ◌∷◌, drop, Option, None, Some, Result, Ok}
+use Rattle.std.specs.Prelude.{Err, IfSome, if◌then◌else◌}
 use Rattle.sccs_base.specs.Name.{is_sfile_name}
 use Rattle.sccs_base.specs.Stream.{GivesOk, GivesSome}
 use Rattle.sccs_disk.specs.Files.{View}
@@ -34,7 +35,14 @@ pending_text whole n edits = if whole then edit_lines edits else module_line n e
 
 -- the text is printed, and no file changes
 abbrev pub shows_pending : Bool → List ℕ → List Edit → StepEffect
-shows_pending whole n edits = record { new = None; text = pending_text whole n edits; out = []; err = []; status = pending_status whole (has_entry edits) }
+shows_pending whole n edits = record {
+  new = None;
+  text = pending_text whole n edits;
+  out = [];
+  err = [];
+  status =
+      pending_status whole (has_entry edits);
+}
 
 -- what is done with the files of a name
 unfoldable pub pending_step : Bool → List ℕ → Files → Outcome
@@ -57,13 +65,16 @@ pending_action whole = record {
 }
 
 -- what printing entries answers and writes
-abbrev pub PrintsPending : Bool → List ℕ → List Edit → Option (List ℕ) → Option (List ℕ) → Result Bool StepFault → Type 0
+abbrev pub PrintsPending : Bool → List ℕ → List Edit → Option (List ℕ) → Option (List ℕ) → Result Bool StepFault
+    → Type 0
 PrintsPending whole n edits a b (Ok found) = GivesOk a b (pending_text whole n edits) × (found ≡ has_entry edits)
 PrintsPending whole n edits a b (Err Memory) = b ≡ a
 PrintsPending whole n edits a b (Err WriteFault) = GivesSome a b (pending_text whole n edits)
 PrintsPending whole n edits a b (Err _) = ⊥
 
 -- what the call for a name answers and writes, where the disk tells its files
-abbrev pub MeetsPending : Bool → List ℕ → Result Bool StepFault → Option View → Option View → Option (List ℕ) → Option (List ℕ) → Type 0
+abbrev pub MeetsPending : Bool → List ℕ → Result Bool StepFault → Option View → Option View → Option (List ℕ)
+    → Option (List ℕ) → Type 0
 MeetsPending whole n r told told2 out out2 =
-    IfSome told (λ v. (err : Option (List ℕ)) → Meets (pending_status whole) r n (pending_step whole n (look v n)) (world (Some v) out err) (world told2 out2 err))
+    IfSome told (λ v. (err : Option (List ℕ)) → Meets (pending_status whole) r n (pending_step whole n (look v n))
+    (world (Some v) out err) (world told2 out2 err))

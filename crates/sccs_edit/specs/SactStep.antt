@@ -1,5 +1,6 @@
 -- What sact does: POSIX, Shell and Utilities, sact. It reads the p-file alone.
-use Rattle.std.specs.Prelude.{◌≡◌, ℕ, Bool, true, false, List, [], ◌∷◌, ◌++◌, flat_map, codes, take, ◌||◌, Option, None, is_some, Result, Ok, Err}
+use Rattle.std.specs.Prelude.{◌≡◌, ℕ, Bool, true, false, List, [], ◌∷◌, ◌++◌, flat_map, codes, take, ◌||◌, Option, None}
+use Rattle.std.specs.Prelude.{is_some, Result, Ok, Err}
 use Rattle.std.specs.Str.{bytes_eq}
 use Rattle.sccs_base.specs.Name.{is_sfile_name}
 use Rattle.sccs_sid.specs.Moment.{moment_text}
@@ -43,7 +44,14 @@ none_text n (e ∷ edits) = []
 
 -- the entries are printed, and no file changes
 abbrev pub shows_entries : Bool → List ℕ → List Edit → StepEffect
-shows_entries heading n edits = record { new = None; text = []; out = heading_text heading n ++ edit_lines edits; err = none_text n edits; status = 0 }
+shows_entries heading n edits = record {
+  new = None;
+  text = [];
+  out = heading_text heading n ++ edit_lines edits;
+  err =
+      none_text n edits;
+  status = 0;
+}
 
 -- the entries of a name whose s-file is there
 unfoldable pub found_edits : Files → Result (List Edit) Refusal
@@ -63,10 +71,22 @@ could_show (Ok effect) = is_empty effect.err || bytes_eq none_outstanding (take 
 could_show (Err refusal) = has_number sact_checks (number_of refusal)
 
 abbrev pub sact_action : Bool → Action
-sact_action heading = record { fits = is_sfile_name; step = λ n input named files. sact_step heading n files; named = λ n. []; takes = false; reads = true; locks = true; silent = false; rule = Greatest; could = could_show }
+sact_action heading = record {
+  fits = is_sfile_name;
+  step = λ n input named files. sact_step heading n files;
+  named =
+      λ n. [];
+  takes = false;
+  reads = true;
+  locks = true;
+  silent = false;
+  rule = Greatest;
+  could = could_show;
+}
 
 -- What showing entries answers, and writes on out and err: all, or a prefix of each; without memory nothing.
-abbrev pub ShowsEdits : Result (Unit {0}) StepFault → StepEffect → Option (List ℕ) → Option (List ℕ) → Option (List ℕ) → Option (List ℕ) → Type 0
+abbrev pub ShowsEdits : Result (Unit {0}) StepFault → StepEffect → Option (List ℕ) → Option (List ℕ) → Option (List ℕ)
+    → Option (List ℕ) → Type 0
 ShowsEdits (Ok done) d out out2 err err2 = GivesOk out out2 d.out × GivesOk err err2 d.err
 ShowsEdits (Err WriteFault) d out out2 err err2 = GivesSome out out2 d.out × GivesSome err err2 d.err
 ShowsEdits (Err Memory) d out out2 err err2 = (out2 ≡ out) × (err2 ≡ err)

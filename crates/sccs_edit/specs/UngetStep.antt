@@ -25,7 +25,8 @@ unget_checks =
 
 -- the SID that was to be made, unless nothing is to be said
 abbrev pub unget_report : UngetWords → Bool → List ℕ → List Edit → ℕ → List ℕ
-unget_report words heading n edits number = if words.silent then [] else heading_text heading n ++ ended (made_text edits number)
+unget_report words heading n edits number = if words.silent then [] else heading_text heading n ++ ended
+    (made_text edits number)
 
 -- the number of the entry that the login means: the one that is to make the SID, where one is given
 abbrev pub login_entry : UngetWords → Stamp → List Edit → Result ℕ Refusal
@@ -33,7 +34,8 @@ login_entry words stamp edits = or_no_edit (choice (fits stamp.login words.sid f
 
 -- the p-file without the entry of a number
 abbrev pub without_entry : UngetWords → Bool → List ℕ → List Edit → ℕ → Decided
-without_entry words heading n edits number = record { edits = remove edits (number - 1); keep = words.keep; report = unget_report words heading n edits number }
+without_entry words heading n edits number =
+    record { edits = remove edits (number - 1); keep = words.keep; report = unget_report words heading n edits number }
 
 -- the entry leaves the p-file, and the g-file is removed unless it is kept
 unfoldable pub unget_decides : UngetWords → Stamp → Bool → List ℕ → Found → Result Decided Refusal
@@ -42,4 +44,12 @@ unget_decides words stamp heading n found = do
   Ok (without_entry words heading n found.edits number)
 
 abbrev pub unget_change : UngetWords → Stamp → Bool → Changing
-unget_change words stamp heading = record { outcome = entries_outcome (unget_decides words stamp heading); named = λ n. []; takes = false; silent = false; early = false; could = quiet_checks unget_checks }
+unget_change words stamp heading = record {
+  outcome = entries_outcome (unget_decides words stamp heading);
+  named =
+      λ n. [];
+  takes = false;
+  silent = false;
+  early = false;
+  could = quiet_checks unget_checks;
+}

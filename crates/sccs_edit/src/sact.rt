@@ -53,9 +53,11 @@ fn show<O: Sink, E: Sink>(
     err: &mut E,
 ) -> Result<(), StepFault>
     requires { All IsEdit edits.now }
-    ensures shows { ShowsEdits result (shows_entries heading name.now edits.now) (O.given out.old) (O.given out.new) (E.given err.old) (E.given err.new) }
+    ensures shows { ShowsEdits result (shows_entries heading name.now edits.now) (O.given out.old) (O.given out.new)
+        (E.given err.old) (E.given err.new) }
     ensures causes { (input disk : ℕ) → StepCauses result
-        (counts input (O.faults out.old) (E.faults err.old) disk) (counts input (O.faults out.new) (E.faults err.new) disk) }
+        (counts input (O.faults out.old) (E.faults err.old) disk) (counts input (O.faults out.new)
+        (E.faults err.new) disk) }
 {
     let Ok(text) = report_of(alloc, heading, name, edits) else {
         return Err(StepFault::Memory);

@@ -77,7 +77,8 @@ pub fn pending<D: Disk, O: Sink>(
     disk: &mut D,
 ) -> Result<bool, StepFault>
     requires { IsSFileName name.now }
-    ensures meets { MeetsPending whole name.now result (seen (D.told disk.old)) (seen (D.told disk.new)) (O.given out.old) (O.given out.new) }
+    ensures meets { MeetsPending whole name.now result (seen (D.told disk.old)) (seen (D.told disk.new))
+        (O.given out.old) (O.given out.new) }
     ensures same { D.told disk.new ≡ D.told disk.old }
     ensures checks { RefusesWithin sact_checks result }
     ensures causes { PrintCauses result (O.faults out.old) (O.faults out.new) (D.faults disk.old) (D.faults disk.new) }

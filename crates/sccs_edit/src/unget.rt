@@ -42,7 +42,8 @@ fn report_of(
     requires edits { All IsEdit edits.now }
     requires some { 0 < number }
     requires there { number ≤ length edits.now }
-    ensures { IfOk result (λ report. report ≡ unget_report unget.now.words.now unget.now.heading name.now edits.now number) }
+    ensures { IfOk result (λ report. report ≡ unget_report unget.now.words.now unget.now.heading name.now edits.now
+        number) }
 {
     let mut report = Vec::new(alloc);
     if !unget.words.silent {
@@ -67,7 +68,8 @@ fn drop_entry<D: Disk>(
     requires edits { All IsEdit edits }
     requires some { 0 < number }
     requires there { number ≤ length edits }
-    ensures drops { PreparesDecided result name.now (without_entry unget.now.words.now unget.now.heading name.now edits number) (D.told disk.old) (D.told disk.new) }
+    ensures drops { PreparesDecided result name.now (without_entry unget.now.words.now unget.now.heading name.now edits
+        number) (D.told disk.old) (D.told disk.new) }
     ensures touches { TouchesOnly (bytes_eq (q_file name.now)) (D.told disk.old) (D.told disk.new) }
     ensures firm { IfOk result (λ p. IsFirmPrepared name.now p (D.told disk.old) (D.told disk.new)) }
     ensures checks { RefusesWithin unget_checks result }

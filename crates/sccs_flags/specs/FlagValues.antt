@@ -1,5 +1,6 @@
 -- What the flags of a file say (sccsfile(4), "Flags"; POSIX, admin -f).
-use Rattle.std.specs.Prelude.{ℕ, ◌==◌, nat_le, Bool, false, ◌&&◌, ◌||◌, List, Option, None, Some, option_and_then, unwrap_or, find}
+use Rattle.std.specs.Prelude.{ℕ, ◌==◌, nat_le, Bool, false, ◌&&◌, ◌||◌, List, Option, None, Some, option_and_then}
+use Rattle.std.specs.Prelude.{unwrap_or, find}
 use Rattle.std.specs.List.{list_any}
 use Rattle.sccs_sid.specs.Reading.{number}
 use Rattle.sccs_sid.specs.Words.{words}

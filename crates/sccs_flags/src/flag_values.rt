@@ -2,7 +2,8 @@ ghost use Rattle.std.specs.Prelude.{◌≡◌, ◌==◌, unwrap_or};
 ghost use Rattle.std.specs.Option.{option_copied};
 ghost use Rattle.sccs_sid.specs.Reading.{number};
 ghost use Rattle.sccs_sid.specs.Words.{words};
-ghost use Rattle.sccs_flags.specs.FlagValues.{ceiling, flag_of, floor, has_flag, has_release, is_locked_release, is_within_limits, lists_release, locks, number_or};
+ghost use Rattle.sccs_flags.specs.FlagValues.{ceiling, flag_of, floor, has_flag, has_release, is_locked_release};
+ghost use Rattle.sccs_flags.specs.FlagValues.{is_within_limits, lists_release, locks, number_or};
 
 use sccs_history::{Flag, Header};
 use sccs_sid::reading::{cut_at, number};

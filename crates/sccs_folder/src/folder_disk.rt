@@ -9,7 +9,8 @@ use sccs_disk::{Creation, Disk, DiskRefusal};
 use std::alloc::Global;
 use std::rt::Files;
 
-/// The current folder as a disk; the stored files may stand in one of their own. It tells nothing of its files, and counts
+/// The current folder as a disk; the stored files may stand in one of their own. It tells nothing of its files, and
+/// counts
 /// its failures.
 #[derive(Drop)]
 pub struct FolderDisk<R: Files> {

@@ -1,5 +1,6 @@
 //! The order in which changed names come to the disk. Where the file system keeps it, one sync of the folder at the end
-//! of a step is enough, as the model of a disk has it; where it doesn't, or nobody can tell, the folder is synced between.
+//! of a step is enough, as the model of a disk has it; where it doesn't, or nobody can tell, the folder is synced
+//between.
 use crate::folder_places::{HERE, Places, Role, has_letter, is_stored, role_of};
 use crate::folder_turns::Claims;
 use bstr::ByteSlice;
@@ -27,7 +28,8 @@ pub struct FolderOrder<F> {
     locked: bool,
     // whether an s-file is among them, behind which p- and g-files come
     placed: bool,
-    // whether the intent of a group is on the disk, by which its changes are made again in any order; a command that makes a
+    // whether the intent of a group is on the disk, by which its changes are made again in any order; a command that
+    // makes a
     // lock behind it is none of the group's
     group: bool,
 }
@@ -40,7 +42,8 @@ fn parts_of(device: u64) -> (u64, u64) {
 }
 
 // whether the file system of a device keeps the order in which names change; None where that can't be told. The system
-// knows the device by a name, under which ext4 tells its options, only with a journal one for data among them, and under
+// knows the device by a name, under which ext4 tells its options, only with a journal one for data among them, and
+// under
 // which xfs has a folder. What has no device of its own doesn't keep it.
 fn keeps_order<R: Files>(rt: &R, alloc: Global, device: u64) -> Option<bool> {
     let (major, minor) = parts_of(device);
@@ -174,7 +177,8 @@ impl<F: OpenFile + Drop> FolderOrder<F> {
         self.placed = false;
     }
 
-    /// Before a file is made: no x- or q-file comes to the disk without its z-file, whose name alone would be nothing there.
+    /// Before a file is made: no x- or q-file comes to the disk without its z-file, whose name alone would be nothing
+    /// there.
     pub fn before_making<R: Files<File = F>>(
         &mut self,
         rt: &R,

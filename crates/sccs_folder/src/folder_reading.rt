@@ -47,7 +47,8 @@ pub fn is_at(there: &Metadata, held: &Metadata) -> bool {
     there.dev() == held.dev() && there.ino() == held.ino()
 }
 
-/// What stands at a path, where that is a regular file; None where nothing does. What is no regular file has failed, and
+/// What stands at a path, where that is a regular file; None where nothing does. What is no regular file has failed,
+/// and
 /// is never opened, since opening could wait for another program.
 pub fn regular<R: Files>(rt: &R, path: &str) -> Result<Option<Metadata>, Failed> {
     match fs::metadata(rt, path) {

@@ -1,4 +1,5 @@
-//! Turns of commands: a file that a command makes is held by the lock of its open file until it has another name, is gone,
+//! Turns of commands: a file that a command makes is held by the lock of its open file until it has another name, is
+//gone,
 //! or its process ends.
 use crate::folder_reading::{is_at, open_to_read};
 use sccs_base::{Failed, Memory, Name};
@@ -31,7 +32,8 @@ pub trait Turn {
     fn wait(&self);
 }
 
-// a file that was opened for reading alone can be held only shared on some file systems, which meets a whole lock all the same
+// a file that was opened for reading alone can be held only shared on some file systems, which meets a whole lock all
+// the same
 impl Turn for File {
     fn attempt(&self) -> Attempt {
         match self.try_lock() {

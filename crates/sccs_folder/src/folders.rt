@@ -27,8 +27,10 @@ const WRITE_RIGHTS: u32 = 0o222;
 
 const RUN_RIGHTS: u32 = 0o111;
 
-/// The current folder, and that of stored files. The two files that were read last are kept open and read ahead. The file
-/// that was made or written last is kept open, and what is appended is held back until it is long, or another call needs
+/// The current folder, and that of stored files. The two files that were read last are kept open and read ahead. The
+/// file
+/// that was made or written last is kept open, and what is appended is held back until it is long, or another call
+/// needs
 /// it written. What a command makes for its turn it holds until it is gone or has another name.
 #[derive(Drop)]
 pub struct Folder<R: Files> {
@@ -77,7 +79,8 @@ fn make_file<R: Files>(rt: &R, path: &str, rights: u32) -> Result<Option<R::File
     }
 }
 
-// the rights of a new file of a name whose s-file has this mode: an x-file has none for group and others, nor to run it,
+// the rights of a new file of a name whose s-file has this mode: an x-file has none for group and others, nor to run
+// it,
 // that its s-file hasn't, and a g-file may be run by whom its s-file may be
 fn rights_of(name: &Name, mode: u32) -> u32 {
     if has_letter(name, b'x') {
@@ -115,7 +118,8 @@ where
         }
     }
 
-    /// Closes the files that are open behind a failure, which changes no other file: what is held back is written. Where no
+    /// Closes the files that are open behind a failure, which changes no other file: what is held back is written.
+    /// Where no
     /// s-, p- or g-file has changed yet, what this command made is taken away, the z-files last.
     pub fn give_up(&mut self) {
         self.reader.close();
@@ -210,7 +214,8 @@ where
         }
     }
 
-    /// The length of a file. That of a z-file which a command at work holds isn't there; what one command at a time makes
+    /// The length of a file. That of a z-file which a command at work holds isn't there; what one command at a time
+    /// makes
     /// is waited for.
     pub fn size(&mut self, name: &Name) -> Result<Option<u64>, Failed> {
         self.settle_file(name)?;
@@ -252,7 +257,8 @@ where
         }
     }
 
-    // opens the s-file of a lock that is to be made, where it is there. One that can't be read, or that has a second name,
+    // opens the s-file of a lock that is to be made, where it is there. One that can't be read, or that has a second
+    // name,
     // which nobody would keep in step, fails.
     fn open_history(&mut self, history: &Name) -> Result<(), Failed> {
         self.reader.close();
@@ -278,7 +284,8 @@ where
         Ok(())
     }
 
-    // makes a z-file, which is this command's as long as it lives; another's, and one that recovery has taken up before it
+    // makes a z-file, which is this command's as long as it lives; another's, and one that recovery has taken up before
+    // it
     // was held, is there
     fn create_lock(&mut self, name: &Name) -> Result<Creation, DiskRefusal> {
         let Some(history) = with_letter(name, b's') else {
@@ -468,7 +475,8 @@ where
         self.hand_over(from, to)
     }
 
-    // holds a file that is to be removed, so that no other command makes it its own meanwhile; None where another command
+    // holds a file that is to be removed, so that no other command makes it its own meanwhile; None where another
+    // command
     // has removed it
     fn hold(&mut self, name: &Name) -> Result<Option<R::File>, Failed> {
         let path = self.places.of(name)?;
@@ -500,7 +508,8 @@ where
         Ok(())
     }
 
-    /// Removes a file. A lock that another command holds isn't removed; what one command at a time makes is waited for, and
+    /// Removes a file. A lock that another command holds isn't removed; what one command at a time makes is waited for,
+    /// and
     /// may be gone then.
     pub fn remove(&mut self, name: &Name) -> Result<(), Failed> {
         self.settle_file(name)?;
@@ -528,7 +537,8 @@ where
         Ok(())
     }
 
-    // the name of an entry of the folder of stored files; None where it is no name, or no regular file has it. That what
+    // the name of an entry of the folder of stored files; None where it is no name, or no regular file has it. That
+    // what
     // stands under the name of an s-file can't be told is a failure, so that none is passed over in silence.
     fn listed<S: Files>(&mut self, entry: &DirEntry<S, Global>) -> Result<Option<Name>, Failed> {
         let Some(name) = Name::read(entry.file_name().as_bytes()) else {

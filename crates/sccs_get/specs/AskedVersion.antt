@@ -21,7 +21,10 @@ use Rattle.sccs_get.specs.declared.targets.Asked.{Asked}
 
 -- the SID that is asked for: the one given, or that of the flag d
 abbrev pub spec_asked : GetWords → Header → Option Spec
-spec_asked words header = elim words.spec as (λ _. Option Spec) [ None ↦ default_of header.flags | Some spec ↦ Some spec ]
+spec_asked words header = elim words.spec as (λ _. Option Spec) [
+  | None ↦ default_of header.flags
+  | Some spec ↦ Some spec
+]
 
 -- the serials of a list; none where no list is given
 abbrev pub listed_serials : List Record → Option (List Range) → Result (List ℕ) Sid
@@ -49,5 +52,11 @@ asked words header = do
     target = target;
     include = include;
     exclude = exclude;
-    set = applied (record { target = target; include = include; exclude = exclude; cutoff = option_map (λ m. m.seconds) words.cutoff }) header.records;
+    set = applied (record {
+      target = target;
+      include = include;
+      exclude = exclude;
+      cutoff =
+          option_map (λ m. m.seconds) words.cutoff;
+    }) header.records;
   })

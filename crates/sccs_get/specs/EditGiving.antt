@@ -17,7 +17,9 @@ use Rattle.sccs_get.specs.declared.edits.Reserved.{Reserved}
 -- it is found, or a check fails; of want of memory and a failing disk nothing is said
 abbrev pub AnswersReserved : GetWords → Stamp → List ℕ → List ℕ → Files → Result Reserved StepFault → Type 0
 AnswersReserved words stamp place n f (Ok x) =
-    (parsed : Parsed) × ShowsFile (bytes_at f.s) parsed x.pending.front × (answer file_of (bytes_at f.s) ≡ Ok parsed) × (reserved_of words stamp place n f ≡ Ok (record { parsed = parsed; edits = x.pending.edits; edit = x.edit; version = x.version }))
+    (parsed : Parsed) × ShowsFile (bytes_at f.s) parsed x.pending.front × (answer file_of (bytes_at f.s) ≡ Ok parsed)
+    × (reserved_of words stamp place n f ≡ Ok
+    (record { parsed = parsed; edits = x.pending.edits; edit = x.edit; version = x.version }))
 AnswersReserved words stamp place n f (Err (Refused refusal)) = reserved_of words stamp place n f ≡ Err refusal
 AnswersReserved words stamp place n f (Err Memory) = Unit {0}
 AnswersReserved words stamp place n f (Err DiskFault) = Unit {0}

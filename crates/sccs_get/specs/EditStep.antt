@@ -1,5 +1,6 @@
 -- What get -e does: POSIX, Shell and Utilities, get, -e.
-use Rattle.std.specs.Prelude.{ℕ, Bool, false, List, [], ◌∷◌, ◌++◌, length, Option, None, Some, Result, Ok, Err, if◌then◌else◌}
+use Rattle.std.specs.Prelude.{ℕ, Bool, false, List, [], ◌∷◌, ◌++◌, length, Option, None, Some, Result, Ok, Err}
+use Rattle.std.specs.Prelude.{if◌then◌else◌}
 use Rattle.sccs_sid.specs.Reading.{◌>>=◌}
 use Rattle.sccs_sid.specs.Refusal.{number_of}
 use Rattle.sccs_sid.specs.declared.moments.Stamp.{Stamp}
@@ -20,7 +21,8 @@ use Rattle.sccs_changes.specs.Changes.{Changing}
 use Rattle.sccs_get.specs.NewEntry.{edit_checks, new_entry}
 use Rattle.sccs_get.specs.Reports.{get_warning, said_on_err, said_on_out}
 use Rattle.sccs_get.specs.SummaryStep.{summary_got, summed, writes_l}
-use Rattle.sccs_get.specs.VersionStep.{found_version, is_in_the_way, lines_got, report_on, says_well, stays_writable, given_text, writes_g}
+use Rattle.sccs_get.specs.VersionStep.{found_version, is_in_the_way, lines_got, report_on, says_well, stays_writable}
+use Rattle.sccs_get.specs.VersionStep.{given_text, writes_g}
 use Rattle.sccs_get.specs.declared.found.Found.{Found as Version}
 
 -- What is found: the header and items, the entries, the new one, and the version that is got.
@@ -42,9 +44,11 @@ reserved_of words stamp place n f = do
 abbrev pub g_after : GetWords → List ℕ → Option Content → Option Content
 g_after words text g = if writes_g words then Some (record { bytes = text; writable = stays_writable words }) else g
 
--- The entries are one more, last; the text goes to out before that with -p, becomes the g-file, or is none with -g; and the report
+-- The entries are one more, last; the text goes to out before that with -p, becomes the g-file, or is none with -g; and
+-- the report
 -- goes to err with -p.
-abbrev pub edit_effect : GetWords → Bool → List ℕ → List Record → Files → List Edit → Edit → Version → List HistoryLine → StepEffect
+abbrev pub edit_effect : GetWords → Bool → List ℕ → List Record → Files → List Edit → Edit → Version → List HistoryLine
+    → StepEffect
 edit_effect words heading n records f edits edit version lines =
     let text : List ℕ = given_text words records version lines in
     let report : List ℕ = report_on words heading n version (Some edit.made) (length lines) in
@@ -60,7 +64,8 @@ unfoldable pub edit_outcome : GetWords → Stamp → List ℕ → Bool → Step
 edit_outcome words stamp place heading n input named f = do
   x ← reserved_of words stamp place n f
   Ok (summed words (summary_got words x.parsed.header.records x.version) f
-      (edit_effect words heading n x.parsed.header.records f x.edits x.edit x.version (lines_got x.version x.parsed.items)))
+      (edit_effect words heading n x.parsed.header.records f x.edits x.edit x.version
+      (lines_got x.version x.parsed.items)))
 
 -- the outcomes that may come over any disk
 abbrev pub could_edit : GetWords → Outcome → Bool
@@ -68,4 +73,13 @@ could_edit words (Ok effect) = says_well words effect.err
 could_edit words (Err refusal) = has_number edit_checks (number_of refusal)
 
 abbrev pub edit_change : GetWords → Stamp → List ℕ → Bool → Changing
-edit_change words stamp place heading = record { outcome = edit_outcome words stamp place heading; named = λ n. []; takes = false; silent = false; early = writes_l words; could = could_edit words }
+edit_change words stamp place heading =
+    record {
+      outcome = edit_outcome words stamp place heading;
+      named = λ n. [];
+      takes = false;
+      silent = false;
+      early =
+          writes_l words;
+      could = could_edit words;
+    }

@@ -1,5 +1,6 @@
 -- What giving the text of a version answers, and what is ready behind it: the report, and the new g-file as the y-file.
-use Rattle.std.specs.Prelude.{◌≡◌, ◌⊎◌, ℕ, Bool, true, false, List, [], drop, Option, None, Some, IfSome, Result, Ok, Err, if◌then◌else◌}
+use Rattle.std.specs.Prelude.{◌≡◌, ◌⊎◌, ℕ, Bool, true, false, List, [], drop, Option, None, Some, IfSome, Result, Ok}
+use Rattle.std.specs.Prelude.{Err, if◌then◌else◌}
 use Rattle.std.specs.Str.{bytes_eq}
 use Rattle.sccs_base.specs.Name.{y_file}
 use Rattle.sccs_base.specs.Stream.{GivesOk, GivesSome}
@@ -30,7 +31,8 @@ printed_text words text = if words.print then text else []
 
 -- the text is the y-file, where it is to be the g-file
 abbrev pub with_y : GetWords → List ℕ → List ℕ → View → View
-with_y words n text v = if writes_g words then put v (y_file n) (Some (record { bytes = text; writable = stays_writable words })) else v
+with_y words n text v = if writes_g words then put v (y_file n)
+    (Some (record { bytes = text; writable = stays_writable words })) else v
 
 -- Where a text was given.
 pub record IsTextGiven (words : GetWords) (n text : List ℕ) (w w2 : World) : Type 0 where
@@ -45,11 +47,15 @@ IsLate WriteFault = Unit {0}
 IsLate ReadFault = ⊥
 IsLate (Refused refusal) = ⊥
 
--- The text of lines was given, and how many they are, and whether a keyword of one was replaced; or a prefix of what goes to out.
-abbrev pub GivesVersion : GetWords → List ℕ → List Record → Found → List HistoryLine → Result Shown StepFault → World → World → Type 0
+-- The text of lines was given, and how many they are, and whether a keyword of one was replaced; or a prefix of what
+-- goes to out.
+abbrev pub GivesVersion : GetWords → List ℕ → List Record → Found → List HistoryLine → Result Shown StepFault → World
+    → World → Type 0
 GivesVersion words n records found lines (Ok shown) w w2 =
-    IsTextGiven words n (given_text words records found lines) w w2 × (words.no_text ≡ false → shown ≡ shown_of (form_got words found) lines)
-GivesVersion words n records found lines (Err fault) w w2 = IsLate fault × GivesSome w.out w2.out (printed_text words (given_text words records found lines))
+    IsTextGiven words n (given_text words records found lines) w w2 × (words.no_text ≡ false
+    → shown ≡ shown_of (form_got words found) lines)
+GivesVersion words n records found lines (Err fault) w w2 = IsLate fault × GivesSome w.out w2.out
+    (printed_text words (given_text words records found lines))
 
 -- All is ready that a get gives behind its text: what it says, and the y-file where a g-file is to be made.
 pub record IsReadied (words : GetWords) (n : List ℕ) (p : Prepared) (o : Outcome) (w w2 : World) : Type 0 where
@@ -60,7 +66,8 @@ pub record IsReadied (words : GetWords) (n : List ℕ) (p : Prepared) (o : Outco
   pub report : effect.out ≡ p.report
   pub message : effect.err ≡ p.message
   pub text_is : effect.text ≡ printed_text words text
-  pub new : IfSome w.view (λ v. effect.new ≡ (if writes_g words then Some (with_g (look v n) text (stays_writable words)) else None))
+  pub new : IfSome w.view (λ v. effect.new ≡ (if writes_g words then Some
+      (with_g (look v n) text (stays_writable words)) else None))
   pub given : IsTextGiven words n text w w2
 
 -- it is ready; or a check fails, and nothing is given; or something failed behind a prefix of the text
@@ -86,7 +93,8 @@ y_cleared has_y n v = if has_y then without_name (y_file n) v else v
 abbrev pub FinishesGet : GetWords → List ℕ → Prepared → Result (Unit {0}) StepFault → World → World → Type 0
 FinishesGet words n p (Ok done) w w2 = Becomes (g_placed words n) w.view w2.view × IsReported p w w2
 FinishesGet words n p (Err WriteFault) w w2 = Becomes (g_placed words n) w.view w2.view × IsReportCut p w w2
-FinishesGet words n p (Err DiskFault) w w2 = MayBecome (g_placed words n) w.view w2.view × (w2.out ≡ w.out) × (w2.err ≡ w.err)
+FinishesGet words n p (Err DiskFault) w w2 = MayBecome (g_placed words n) w.view w2.view × (w2.out ≡ w.out)
+    × (w2.err ≡ w.err)
 FinishesGet words n p (Err fault) w w2 = ⊥
 
 -- what a stop leaves of it, where there is a text for the g-file
@@ -98,4 +106,5 @@ PlacesG words n (Err fault) old new = writes_g words ≡ true → PlaceStops n (
 -- the y-file is gone, where one may have been made, and the answer is the fault; or the disk failed
 abbrev pub GivesUpGet : Bool → List ℕ → StepFault → Result (Unit {0}) StepFault → Option View → Option View → Type 0
 GivesUpGet has_y n fault r a b =
-    ((r ≡ Err fault) × Becomes (y_cleared has_y n) a b) ⊎ ((r ≡ Err DiskFault) × Moves (bytes_eq (y_file n)) (λ v. v) a b)
+    ((r ≡ Err fault) × Becomes (y_cleared has_y n) a b) ⊎ ((r ≡ Err DiskFault) × Moves (bytes_eq (y_file n))
+    (λ v. v) a b)

@@ -23,7 +23,8 @@ pub record AsksNewest (words : GetWords) : Type 0 where
   pub exclude : words.exclude ≡ None
   pub cutoff : words.cutoff ≡ None
 
--- There is a record; each is live, on the trunk and without lists; SIDs rise with serials; the predecessor of each record is the
+-- There is a record; each is live, on the trunk and without lists; SIDs rise with serials; the predecessor of each
+-- record is the
 -- next one in the table, 0 for the last; and no flag d names a SID.
 pub record IsLinearFile (parsed : Parsed) : Type 0 where
   pub some : is_empty parsed.header.records ≡ false
@@ -38,16 +39,22 @@ pub record GivesLinesPlain (words : GetWords) : Type 0 where
   pub «module» : words.«module» ≡ false
   pub sids : words.sids ≡ false
 
--- The step gives a summary, to out with -L and as the l-file with -l, and then a text: to out with -p, else as the g-file, which may be written.
-pub record StepGives (words : GetWords) (stamp : Stamp) (place : List ℕ) (heading : Bool) (n : List ℕ) (f : Files) (summary text : List ℕ) : Type 0 where
+-- The step gives a summary, to out with -L and as the l-file with -l, and then a text: to out with -p, else as the
+-- g-file, which may be written.
+pub record StepGives (words : GetWords) (stamp : Stamp) (place : List ℕ) (heading : Bool) (n : List ℕ) (f : Files)
+    (summary text : List ℕ) : Type 0 where
   pub effect : StepEffect
   pub is : get_outcome words stamp place heading n f ≡ Ok effect
   pub printed : effect.text ≡ printed_summary words summary ++ printed_text words text
-  pub made : writes_g words ≡ true → effect.new ≡ Some (with_g (if writes_l words then with_l summary f else f) text true)
+  pub made : writes_g words ≡ true → effect.new ≡ Some (with_g (if writes_l words then with_l summary f
+      else f) text true)
 
--- A version is found, and its lines have these texts; a get that gives lines as they are gives these, each with LF, behind its summary.
-pub record GivesTexts (words : GetWords) (stamp : Stamp) (place : List ℕ) (heading : Bool) (n : List ℕ) (f : Files) (parsed : Parsed) (lines : List (List ℕ)) : Type 0 where
+-- A version is found, and its lines have these texts; a get that gives lines as they are gives these, each with LF,
+-- behind its summary.
+pub record GivesTexts (words : GetWords) (stamp : Stamp) (place : List ℕ) (heading : Bool) (n : List ℕ) (f : Files)
+    (parsed : Parsed) (lines : List (List ℕ)) : Type 0 where
   pub found : Found
   pub is : found_version words stamp place n parsed.header ≡ Ok found
   pub texts_are : texts (lines_got found parsed.items) ≡ lines
-  pub step : GivesLinesPlain words → is_in_the_way words f.g ≡ false → StepGives words stamp place heading n f (summary_got words parsed.header.records found) (bytes_of lines)
+  pub step : GivesLinesPlain words → is_in_the_way words f.g ≡ false → StepGives words stamp place heading n f
+      (summary_got words parsed.header.records found) (bytes_of lines)

@@ -14,7 +14,8 @@ use Rattle.sccs_get.specs.declared.steps.Located.{Located}
 -- it is found, or a check fails; of want of memory and a failing disk nothing is said
 abbrev pub AnswersLocated : GetWords → Stamp → List ℕ → List ℕ → Files → Result Located StepFault → Type 0
 AnswersLocated words stamp place n f (Ok x) =
-    (parsed : Parsed) × ShowsFile (bytes_at f.s) parsed x.front × (answer file_of (bytes_at f.s) ≡ Ok parsed) × (located_of words stamp place n f ≡ Ok (record { parsed = parsed; found = x.found }))
+    (parsed : Parsed) × ShowsFile (bytes_at f.s) parsed x.front × (answer file_of (bytes_at f.s) ≡ Ok parsed)
+    × (located_of words stamp place n f ≡ Ok (record { parsed = parsed; found = x.found }))
 AnswersLocated words stamp place n f (Err (Refused refusal)) = located_of words stamp place n f ≡ Err refusal
 AnswersLocated words stamp place n f (Err Memory) = Unit {0}
 AnswersLocated words stamp place n f (Err DiskFault) = Unit {0}

@@ -53,14 +53,16 @@ release_made got (Some made) = made.release
 -- the releases got and to be made lie from floor to ceiling, and the latter isn't locked
 unfoldable pub edit_releases : Header → Sid → Option Sid → Result Bool Refusal
 edit_releases header got made = do
-  within ← check (is_within_limits header.flags got.release && is_within_limits header.flags (release_made got made)) refusals.OutsideRelease
+  within ← check (is_within_limits header.flags got.release && is_within_limits header.flags (release_made got made))
+      refusals.OutsideRelease
   check (not (is_locked_release header.flags (release_made got made))) refusals.LockedRelease
 
 -- an entry got the SID
 abbrev pub is_got : List Edit → Sid → Bool
 is_got edits got = list_any (λ e. same_sid e.got got) edits
 
--- the SID to be made, where it may be: several edits of one SID need the flag j, and no g-file that may be written is in the way
+-- the SID to be made, where it may be: several edits of one SID need the flag j, and no g-file that may be written is
+-- in the way
 unfoldable pub free_sid : Header → List Edit → Bool → Sid → Option Sid → Result Sid Refusal
 free_sid header edits in_the_way got made = do
   free ← edit_releases header got made
@@ -82,7 +84,14 @@ singles records serials = flat_map (λ n. single_ranges (sid_at records n)) seri
 
 abbrev pub new_edit : Stamp → List Record → Asked → Sid → Sid → Edit
 new_edit stamp records a got made =
-    record { got = got; made = made; login = stamp.login; moment = stamp.moment; include = singles records a.include; exclude = singles records a.exclude }
+    record {
+      got = got;
+      made = made;
+      login = stamp.login;
+      moment = stamp.moment;
+      include = singles records a.include;
+      exclude = singles records a.exclude;
+    }
 
 -- the new entry of a login; or the first check that fails
 unfoldable pub new_entry : GetWords → Stamp → Header → List Edit → Bool → Result Edit Refusal
@@ -90,7 +99,8 @@ new_entry words stamp header edits in_the_way = do
   allowed ← check (is_allowed header.users stamp.login) refusals.NotAllowed
   a ← asked words header
   got ← there (sid_at header.records a.target) refusals.NoSid
-  made ← free_sid header edits in_the_way got (to_be_made header (reserved edits) a.target (spec_asked words header) words.branch)
+  made ← free_sid header edits in_the_way got (to_be_made header (reserved edits) a.target (spec_asked words header)
+      words.branch)
   Ok (new_edit stamp header.records a got made)
 
 -- the release that is asked for alone, else the first

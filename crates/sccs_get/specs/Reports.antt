@@ -1,5 +1,6 @@
 -- What get says: POSIX, Shell and Utilities, get, STDOUT.
-use Rattle.std.specs.Prelude.{ℕ, Bool, not, ◌||◌, List, [], ◌++◌, flat_map, decimal, codes, Option, None, Some, if◌then◌else◌}
+use Rattle.std.specs.Prelude.{ℕ, Bool, not, ◌||◌, List, [], ◌++◌, flat_map, decimal, codes, Option, None, Some}
+use Rattle.std.specs.Prelude.{if◌then◌else◌}
 use Rattle.sccs_sid.specs.Sid.{sid_text}
 use Rattle.sccs_sid.specs.declared.sids.Sid.{Sid}
 use Rattle.sccs_sid.specs.declared.sid_lists.Range.{Range}
@@ -30,7 +31,8 @@ new_sid_text (Some made) = codes "new delta " ++ ended (sid_text made)
 abbrev pub line_count_text : Bool → ℕ → List ℕ
 line_count_text no_text lines = if no_text then [] else decimal lines ++ ended (codes " lines")
 
--- the heading, the SIDs of the lists that were given, the SID that is got, the one that is to be made, and the number of lines;
+-- the heading, the SIDs of the lists that were given, the SID that is got, the one that is to be made, and the number
+-- of lines;
 -- nothing with -s
 abbrev pub get_report : GetWords → Bool → List ℕ → List Range → List Range → Sid → Option Sid → ℕ → List ℕ
 get_report words heading n include exclude got made lines =

@@ -21,5 +21,7 @@ MakesSome false n summary old new = new ≡ old
 
 -- it was given; or a prefix of what goes to out, and the l-file is the old one or the new one
 abbrev pub GivesSummary : GetWords → List ℕ → List ℕ → Result (Unit {0}) StepFault → World → World → Type 0
-GivesSummary words n summary (Ok done) w w2 = GivesOk w.out w2.out (printed_summary words summary) × Becomes (summed_view words n summary) w.view w2.view
-GivesSummary words n summary (Err fault) w w2 = IsLate fault × GivesSome w.out w2.out (printed_summary words summary) × MakesSome (writes_l words) n summary w.view w2.view
+GivesSummary words n summary (Ok done) w w2 = GivesOk w.out w2.out (printed_summary words summary)
+    × Becomes (summed_view words n summary) w.view w2.view
+GivesSummary words n summary (Err fault) w w2 = IsLate fault × GivesSome w.out w2.out (printed_summary words summary)
+    × MakesSome (writes_l words) n summary w.view w2.view

@@ -27,7 +27,13 @@ writes_l words = is_file words.summary
 
 -- what it is made of: the set that is got, the serials of the lists, and the cutoff
 abbrev pub choice_got : GetWords → Found → Choice
-choice_got words found = record { set = found.set; include = found.taken_in; exclude = found.left_out; cutoff = option_map (λ m. m.seconds) words.cutoff }
+choice_got words found = record {
+  set = found.set;
+  include = found.taken_in;
+  exclude = found.left_out;
+  cutoff =
+      option_map (λ m. m.seconds) words.cutoff;
+}
 
 abbrev pub summary_got : GetWords → List Record → Found → List ℕ
 summary_got words records found = summary_text (choice_got words found) records

@@ -1,5 +1,6 @@
 -- What get does with a name, without -e: POSIX, Shell and Utilities, get.
-use Rattle.std.specs.Prelude.{ℕ, Bool, true, false, not, ◌&&◌, ◌||◌, List, [], ◌∷◌, length, take, codes, Option, None, Some, Result, Ok, Err, if◌then◌else◌}
+use Rattle.std.specs.Prelude.{ℕ, Bool, true, false, not, ◌&&◌, ◌||◌, List, [], ◌∷◌, length, take, codes, Option, None}
+use Rattle.std.specs.Prelude.{Some, Result, Ok, Err, if◌then◌else◌}
 use Rattle.std.specs.Str.{bytes_eq}
 use Rattle.sccs_base.specs.Name.{is_sfile_name}
 use Rattle.sccs_sid.specs.Reading.{◌>>=◌, is_empty}
@@ -55,7 +56,8 @@ module_in words header n = if words.«module» then Some (module_name header.fla
 
 -- what keywords are replaced by, where they are
 abbrev pub version_facts : GetWords → Stamp → List ℕ → List ℕ → Header → List ℕ → ℕ → Sid → Option Facts
-version_facts words stamp place n header set target sid = if replaces_keywords words then Some (facts_of header set target sid n place stamp) else None
+version_facts words stamp place n header set target sid = if replaces_keywords words then Some
+    (facts_of header set target sid n place stamp) else None
 
 -- the version that is asked for of the file of a name in a folder, got at a moment; or the first check that fails
 unfoldable pub found_version : GetWords → Stamp → List ℕ → List ℕ → Header → Result Found Refusal
@@ -93,13 +95,20 @@ needs_keywords words flags = replaces_keywords words && has_flag flags flag_i
 
 -- the files with the version as their g-file
 abbrev pub with_g : Files → List ℕ → Bool → Files
-with_g f text writable = record { s = f.s; p = f.p; z = f.z; g = Some (record { bytes = text; writable = writable }); l = f.l }
+with_g f text writable = record {
+  s = f.s;
+  p = f.p;
+  z = f.z;
+  g = Some (record { bytes = text; writable = writable });
+  l = f.l;
+}
 
 -- what is reported of a version, and of the SID that is to be made on it, where there is one
 abbrev pub report_on : GetWords → Bool → List ℕ → Found → Option Sid → ℕ → List ℕ
 report_on words heading n found made lines = get_report words heading n found.include found.exclude found.sid made lines
 
--- With -p the text goes to out and the report to err; with -g there is no text; else the text is the new g-file. A warning comes last.
+-- With -p the text goes to out and the report to err; with -g there is no text; else the text is the new g-file. A
+-- warning comes last.
 abbrev pub get_effect : GetWords → Bool → List ℕ → List Record → Files → Found → List HistoryLine → StepEffect
 get_effect words heading n records f found lines =
     let text : List ℕ = given_text words records found lines in
@@ -114,7 +123,8 @@ get_effect words heading n records f found lines =
 
 -- the checks of the lines and of the g-file
 abbrev pub has_its_keywords : GetWords → List Flag → List HistoryLine → Result Bool Refusal
-has_its_keywords words flags lines = check (not (needs_keywords words flags) || has_keywords (texts lines)) refusals.NoKeywords
+has_its_keywords words flags lines = check (not (needs_keywords words flags) || has_keywords (texts lines))
+    refusals.NoKeywords
 
 -- a g-file that may be written is where the text is to go
 abbrev pub is_in_the_way : GetWords → Option Content → Bool
@@ -141,7 +151,8 @@ located_of words stamp place n f = do
 unfoldable pub get_outcome : GetWords → Stamp → List ℕ → Bool → List ℕ → Files → Outcome
 get_outcome words stamp place heading n f = do
   x ← located_of words stamp place n f
-  Ok (summed words (summary_got words x.parsed.header.records x.found) f (get_effect words heading n x.parsed.header.records f x.found (lines_got x.found x.parsed.items)))
+  Ok (summed words (summary_got words x.parsed.header.records x.found) f
+      (get_effect words heading n x.parsed.header.records f x.found (lines_got x.found x.parsed.items)))
 
 -- the numbers of get's checks
 abbrev pub version_checks : List ℕ
@@ -153,7 +164,8 @@ version_checks =
 
 -- over any disk: on err nothing is said but the warning, unless the report goes there
 abbrev pub says_well : GetWords → List ℕ → Bool
-says_well words message = (prints words && not words.silent) || (is_empty message || bytes_eq (codes "WARNING [") (take 9 message))
+says_well words message = (prints words && not words.silent) || (is_empty message || bytes_eq (codes "WARNING [")
+    (take 9 message))
 
 abbrev pub could_get : GetWords → Outcome → Bool
 could_get words (Ok effect) = says_well words effect.err

@@ -9,7 +9,8 @@ ghost use Rattle.sccs_sid.specs.declared.refusals.StepFault.TheVariants as fault
 ghost use Rattle.sccs_steps.specs.Actions.{RefusesWithin};
 ghost use Rattle.sccs_table.specs.ReaderState.{bytes_in};
 ghost use Rattle.sccs_versions.specs.Coming.{IsBody};
-ghost use Rattle.sccs_get.specs.VersionStep.{g_is_free, has_its_keywords, is_in_the_way, lines_got, needs_keywords, version_checks, writes_g};
+ghost use Rattle.sccs_get.specs.VersionStep.{g_is_free, has_its_keywords, is_in_the_way, lines_got, needs_keywords};
+ghost use Rattle.sccs_get.specs.VersionStep.{version_checks, writes_g};
 
 use crate::found::Found;
 use crate::reports::replaces;
@@ -70,7 +71,8 @@ pub fn is_in_the_way<D: Disk>(
     disk: &mut D,
 ) -> Result<bool, StepFault>
     requires { IsSFileName name.now }
-    ensures told { IfSome (seen (D.told disk.old)) (λ (v : View). IfOk result (λ b. b ≡ is_in_the_way words.now (look v name.now).g)) }
+    ensures told { IfSome (seen (D.told disk.old)) (λ (v : View). IfOk result (λ b. b ≡ is_in_the_way words.now
+        (look v name.now).g)) }
     ensures fault { OnErr result (result ≡ Err faults.DiskFault) }
     ensures frame { OnlyReads D.told D.faults disk.old disk.new result }
 {
@@ -86,7 +88,8 @@ pub fn is_in_the_way<D: Disk>(
 /// Refuses a g-file that is there and may be written, where the text is to take its place. POSIX get.
 pub fn check_g<D: Disk>(words: &GetWords, name: &Name, disk: &mut D) -> Result<(), StepFault>
     requires { IsSFileName name.now }
-    ensures told { IfSome (seen (D.told disk.old)) (λ (v : View). PassesCheck (g_is_free words.now (look v name.now).g) result) }
+    ensures told { IfSome (seen (D.told disk.old)) (λ (v : View). PassesCheck (g_is_free words.now (look v name.now).g)
+        result) }
     ensures checks { RefusesWithin version_checks result }
     ensures frame { OnlyReads D.told D.faults disk.old disk.new result }
 {

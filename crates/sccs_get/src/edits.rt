@@ -1,4 +1,5 @@
-ghost use Rattle.std.specs.Prelude.{◌≡◌, ◌∷◌, ◌++◌, [], ℕ, List, Option, Some, All, Ok, Err, IfOk, IfSome, is_some, true, false};
+ghost use Rattle.std.specs.Prelude.{◌≡◌, ◌∷◌, ◌++◌, [], ℕ, List, Option, Some, All, Ok, Err, IfOk, IfSome, is_some};
+ghost use Rattle.std.specs.Prelude.{true, false};
 ghost use Rattle.std.specs.List.{AllByRecursion};
 ghost use Rattle.std.specs.Str.{bytes_eq};
 ghost use Rattle.sccs_base.specs.Name.{IsSFileName, p_file, q_file, z_file};
@@ -81,8 +82,10 @@ fn find_edit<D: Disk>(
     disk: &mut D,
 ) -> Result<Reserved, StepFault>
     requires { IsSFileName name.now }
-    ensures told { IfSome (seen (D.told disk.old)) (λ (v : View). AnswersReserved get.now.words.now get.now.stamp.now get.now.place.now name.now (look v name.now) result) }
-    ensures pending { IfOk result (λ r. IfSome (seen (D.told disk.old)) (λ (v : View). AnswersPending (v name.now) (v (p_file name.now)) (Ok r.pending))) }
+    ensures told { IfSome (seen (D.told disk.old)) (λ (v : View). AnswersReserved get.now.words.now get.now.stamp.now
+        get.now.place.now name.now (look v name.now) result) }
+    ensures pending { IfOk result (λ r. IfSome (seen (D.told disk.old)) (λ (v : View). AnswersPending (v name.now)
+        (v (p_file name.now)) (Ok r.pending))) }
     ensures placed { IfOk result (λ r. IsPlaced r.pending.front) }
     ensures table { IfOk result (λ r. Falls 65536 (serials_of r.pending.front.header.records)) }
     ensures spelled { IfOk result (λ r. AllByRecursion HasSpelling r.pending.front.header.records) }
@@ -94,7 +97,8 @@ fn find_edit<D: Disk>(
     ensures facts { IfOk result (λ r. IfSome r.version.facts HasMoments) }
     ensures replaced { IfOk result (λ r. is_some r.version.facts ≡ replaces_keywords get.now.words.now) }
     ensures rules { IfOk result (λ r. IsHeader r.pending.front.header) }
-    ensures found { IfOk result (λ r. found_version get.now.words.now get.now.stamp.now get.now.place.now name.now r.pending.front.header ≡ Ok r.version) }
+    ensures found { IfOk result (λ r. found_version get.now.words.now get.now.stamp.now get.now.place.now name.now
+        r.pending.front.header ≡ Ok r.version) }
     ensures checks { RefusesWithin edit_checks result }
     ensures frame { OnlyReads D.told D.faults disk.old disk.new result }
 {
@@ -127,10 +131,12 @@ fn add_entry<D: Disk>(
     requires sfile { IsSFileName name.now }
     requires edits { All IsEdit edits }
     requires edit { IsEdit edit }
-    ensures entries { IfOk result (λ new. PreparesEntries name.now (edits ++ edit ∷ []) new (D.told disk.old) (D.told disk.new)) }
+    ensures entries { IfOk result (λ new. PreparesEntries name.now (edits ++ edit ∷ []) new (D.told disk.old)
+        (D.told disk.new)) }
     ensures moves { Moves (bytes_eq (q_file name.now)) (λ v. v) (seen (D.told disk.old)) (seen (D.told disk.new)) }
     ensures touches { TouchesOnly (bytes_eq (q_file name.now)) (D.told disk.old) (D.told disk.new) }
-    ensures firm { IfOk result (λ new. OnReplace new (Leaves (IsFirm (q_file name.now)) (D.told disk.old) (D.told disk.new))) }
+    ensures firm { IfOk result (λ new. OnReplace new (Leaves (IsFirm (q_file name.now)) (D.told disk.old)
+        (D.told disk.new))) }
     ensures checks { RefusesWithin [] result }
     ensures causes { ChangesDisk D.faults disk.old disk.new result }
 {
@@ -171,19 +177,26 @@ fn give_edit<O: Sink, D: Disk>(
     requires facts { IfSome reserved.version.facts HasMoments }
     requires replaced { is_some reserved.version.facts ≡ replaces_keywords get.now.words.now }
     requires table { Falls 65536 (serials_of reserved.pending.front.header.records) }
-    ensures prepares { (v : View) (file : List ℕ) (items : List Item) (err : Option (List ℕ)) → seen (D.told disk.old) ≡ Some v
+    ensures prepares { (v : View) (file : List ℕ) (items : List Item) (err : Option (List ℕ))
+        → seen (D.told disk.old) ≡ Some v
         → IsBody (bytes_in (Some v) name.now) reserved.pending.front reserved.version.set file items
-        → Prepares result name.now (Ok (edit_effect get.now.words.now get.now.heading name.now reserved.pending.front.header.records (look (unlocked name.now v) name.now) reserved.pending.edits reserved.edit reserved.version (lines_got reserved.version items)))
+        → Prepares result name.now
+        (Ok (edit_effect get.now.words.now get.now.heading name.now reserved.pending.front.header.records
+        (look (unlocked name.now v) name.now) reserved.pending.edits reserved.edit reserved.version
+        (lines_got reserved.version items)))
         (world (Some v) (O.given out.old) err) (world (seen (D.told disk.new)) (O.given out.new) err) }
-    ensures needs { IsThere (z_file name.now) (D.told disk.old) → IfOk result (λ p. IsReady name.now p (D.told disk.new)) }
+    ensures needs { IsThere (z_file name.now) (D.told disk.old)
+        → IfOk result (λ p. IsReady name.now p (D.told disk.new)) }
     ensures touches { TouchesOnly (is_working name.now) (D.told disk.old) (D.told disk.new) }
     ensures firm { IfOk result (λ p. IsFirmPrepared name.now p (D.told disk.old) (D.told disk.new)) }
     ensures entries { Agrees reserved.pending.front.header.records reserved.pending.edits
         → lives reserved.pending.front.header.records reserved.edit.made ≡ false
-        → IfSome (seen (D.told disk.old)) (λ (v : View). AnswersPending (v name.now) (v (p_file name.now)) (Ok reserved.pending))
+        → IfSome (seen (D.told disk.old)) (λ (v : View). AnswersPending (v name.now) (v (p_file name.now))
+        (Ok reserved.pending))
         → IfOk result (λ p. SettlesEntries name.now p (D.told disk.new)) }
     ensures whole { IfOk result (λ p. get.now.words.now.no_text ≡ false → has reserved.version.set 0 ≡ false
-        → GivesFound get.now.words.now get.now.heading name.now reserved.pending.front.header.records reserved.version (Some reserved.edit.made) p (O.given out.old) (O.given out.new) (seen (D.told disk.new))) }
+        → GivesFound get.now.words.now get.now.heading name.now reserved.pending.front.header.records reserved.version
+        (Some reserved.edit.made) p (O.given out.old) (O.given out.new) (seen (D.told disk.new))) }
     ensures says { IfOk result (λ p. says_well get.now.words.now p.message ≡ true) }
     ensures checks { RefusesWithin edit_checks result }
     ensures causes { PrintCauses result (O.faults out.old) (O.faults out.new) (D.faults disk.old) (D.faults disk.new) }

@@ -90,7 +90,8 @@ fn facts_in(
     requires sfile { IsSFileName name.now }
     requires spelled { IsSpelled header.now }
     requires moment { IsMoment stamp.now.moment }
-    ensures value { IfOk result (λ facts. facts ≡ version_facts words.now stamp.now place.now name.now header.now set.now target sid) }
+    ensures value { IfOk result (λ facts. facts ≡ version_facts words.now stamp.now place.now name.now header.now
+        set.now target sid) }
     ensures valid { IfOk result (λ facts. IfSome facts HasMoments) }
     ensures replaced { IfOk result (λ facts. is_some facts ≡ replaces_keywords words.now) }
 {

@@ -64,10 +64,12 @@ pub fn give_version<O: Sink, D: Disk>(
     ensures moves { Moves (bytes_eq (y_file name.now)) (λ v. v) (seen (D.told disk.old)) (seen (D.told disk.new)) }
     ensures there { OnOk result (writes_g words.now ≡ true → IsThere (y_file name.now) (D.told disk.new)) }
     ensures touches { TouchesOnly (bytes_eq (y_file name.now)) (D.told disk.old) (D.told disk.new) }
-    ensures firm { OnOk result (writes_g words.now ≡ true → Leaves (IsFirm (y_file name.now)) (D.told disk.old) (D.told disk.new)) }
+    ensures firm { OnOk result (writes_g words.now ≡ true → Leaves (IsFirm (y_file name.now)) (D.told disk.old)
+        (D.told disk.new)) }
     ensures same { writes_g words.now ≡ false → D.told disk.new ≡ D.told disk.old }
     ensures whole { IfOk result (λ s. words.now.no_text ≡ false → has found.now.set 0 ≡ false
-        → GivesWhole words.now name.now front.now.header.records found.now s (O.given out.old) (O.given out.new) (seen (D.told disk.new))) }
+        → GivesWhole words.now name.now front.now.header.records found.now s (O.given out.old) (O.given out.new)
+        (seen (D.told disk.new))) }
     ensures checks { RefusesWithin file_checks result }
     ensures causes { PrintCauses result (O.faults out.old) (O.faults out.new) (D.faults disk.old) (D.faults disk.new) }
 {

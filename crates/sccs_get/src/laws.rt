@@ -14,9 +14,11 @@ ghost use Rattle.sccs_get.specs.Linear.{AsksNewest, GivesTexts, IsLinearFile};
 /// are all its lines. With -k and nothing before lines it gives just these, to standard output or as the g-file,
 /// behind the summary that -L or -l asks for.
 pub fn linear_files()
-    ensures version { (words : GetWords) (stamp : Stamp) (place n : List ℕ) (heading : Bool) (f : Files) (parsed : Parsed)
+    ensures version { (words : GetWords) (stamp : Stamp) (place n : List ℕ) (heading : Bool) (f : Files)
+        (parsed : Parsed)
         → answer file_of (bytes_at f.s) ≡ Ok parsed → AsksNewest words → IsLinearFile parsed
-        → GivesTexts words stamp place heading n f parsed (version (newest parsed.header.records) parsed.header.records (lines_of parsed.items)) }
+        → GivesTexts words stamp place heading n f parsed (version (newest parsed.header.records) parsed.header.records
+        (lines_of parsed.items)) }
     ensures lines { (words : GetWords) (stamp : Stamp) (place n : List ℕ) (heading : Bool) (f : Files) (parsed : Parsed)
         → answer file_of (bytes_at f.s) ≡ Ok parsed → AsksNewest words → IsLinearFile parsed
         → GivesTexts words stamp place heading n f parsed (undeleted (lines_of parsed.items)) }

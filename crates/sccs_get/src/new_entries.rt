@@ -12,7 +12,9 @@ ghost use Rattle.sccs_pfile.specs.Entries.{IsEdit};
 ghost use Rattle.sccs_sets.specs.Made.{to_be_made};
 ghost use Rattle.sccs_sets.specs.Sets.{sid_at};
 ghost use Rattle.sccs_steps.specs.Actions.{RefusesWithin};
-ghost use Rattle.sccs_get.specs.NewEntry.{AreEditValues, edit_checks, free_sid, is_got, new_edit, new_entry, release_asked, release_checks, release_made, edit_releases, reserved, sid_checks, singles};
+ghost use Rattle.sccs_get.specs.NewEntry.{AreEditValues, edit_checks, free_sid, is_got, new_edit, new_entry};
+ghost use Rattle.sccs_get.specs.NewEntry.{release_asked, release_checks, release_made, edit_releases, reserved};
+ghost use Rattle.sccs_get.specs.NewEntry.{sid_checks, singles};
 ghost use Rattle.sccs_get.specs.AskedVersion.{spec_asked};
 
 use crate::targets::{Asked, asked_of};
@@ -175,7 +177,8 @@ fn made_of(
 ) -> Result<Option<Sid>, Memory>
     requires live { has (live_serials header.now.records) target ≡ true }
     requires asked { IsComponent (release_asked words.now.spec) }
-    ensures value { IfOk result (λ made. made ≡ to_be_made header.now (reserved edits.now) target (spec_asked words.now header.now) words.now.branch) }
+    ensures value { IfOk result (λ made. made ≡ to_be_made header.now (reserved edits.now) target
+        (spec_asked words.now header.now) words.now.branch) }
     ensures valid { OnOk result (IsComponent (release_asked (spec_asked words.now header.now))) }
 {
     let sids = reserved(alloc, edits.items())?;

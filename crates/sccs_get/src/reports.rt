@@ -3,7 +3,8 @@ ghost use Rattle.std.specs.Option.{option_copied};
 ghost use Rattle.sccs_tokens.specs.Written.{ended};
 ghost use Rattle.sccs_sid.specs.Sid.{sid_text};
 ghost use Rattle.sccs_get.specs.VersionStep.{report_on};
-ghost use Rattle.sccs_get.specs.Reports.{get_report, get_warning, line_count_text, listed_text, new_sid_text, prints, replaces_keywords, said_on_err, said_on_out, sid_lines};
+ghost use Rattle.sccs_get.specs.Reports.{get_report, get_warning, line_count_text, listed_text, new_sid_text, prints};
+ghost use Rattle.sccs_get.specs.Reports.{replaces_keywords, said_on_err, said_on_out, sid_lines};
 
 use crate::found::Found;
 use itoa::Buffer;
@@ -41,7 +42,8 @@ fn add_list(
     ranges: &[Range],
     report: &mut Vec<u8>,
 ) -> Result<(), Memory>
-    ensures { OnOk result (report.new.items ≡ report.old.items ++ listed_text (option_copied given.entry) title.now ranges.now) }
+    ensures { OnOk result (report.new.items ≡ report.old.items ++ listed_text (option_copied given.entry) title.now
+        ranges.now) }
 {
     match given {
         Some(_) => {
@@ -60,7 +62,8 @@ fn add_lists(
     exclude: &[Range],
     report: &mut Vec<u8>,
 ) -> Result<(), Memory>
-    ensures { OnOk result (report.new.items ≡ report.old.items ++ (listed_text words.now.include (codes "Included:") include.now ++ listed_text words.now.exclude (codes "Excluded:") exclude.now)) }
+    ensures { OnOk result (report.new.items ≡ report.old.items ++ (listed_text words.now.include (codes "Included:")
+        include.now ++ listed_text words.now.exclude (codes "Excluded:") exclude.now)) }
 {
     let (included, excluded) = (words.include.as_ref(), words.exclude.as_ref());
     add_list(included, b"Included:", include, report)?;
@@ -105,7 +108,8 @@ pub fn get_report(
     made: Option<Sid>,
     lines: u64,
 ) -> Result<Bytes, Memory>
-    ensures { IfOk result (λ report. report ≡ get_report words.now has_heading name.now include.now exclude.now got made lines) }
+    ensures { IfOk result (λ report. report ≡ get_report words.now has_heading name.now include.now exclude.now got made
+        lines) }
 {
     let mut report = Vec::new(alloc);
     if !words.silent {
@@ -140,7 +144,8 @@ fn message(
     report: &Bytes,
     keyword: bool,
 ) -> Result<Bytes, Memory>
-    ensures { IfOk result (λ message. message ≡ said_on_err words.now report.now (get_warning words.now name.now keyword)) }
+    ensures { IfOk result (λ message. message ≡ said_on_err words.now report.now
+        (get_warning words.now name.now keyword)) }
 {
     let mut message = Vec::new(alloc);
     if prints(words) {
@@ -179,8 +184,10 @@ pub fn said(
     made: Option<Sid>,
     shown: Shown,
 ) -> Result<Report, Memory>
-    ensures out { IfOk result (λ r. r.out ≡ said_on_out words.now (report_on words.now has_heading name.now found.now made shown.lines)) }
-    ensures err { IfOk result (λ r. r.err ≡ said_on_err words.now (report_on words.now has_heading name.now found.now made shown.lines) (get_warning words.now name.now shown.keywords)) }
+    ensures out { IfOk result (λ r. r.out ≡ said_on_out words.now (report_on words.now has_heading name.now found.now
+        made shown.lines)) }
+    ensures err { IfOk result (λ r. r.err ≡ said_on_err words.now (report_on words.now has_heading name.now found.now
+        made shown.lines) (get_warning words.now name.now shown.keywords)) }
 {
     let report = get_report(
         alloc,

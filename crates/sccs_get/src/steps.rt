@@ -1,4 +1,5 @@
-ghost use Rattle.std.specs.Prelude.{◌≡◌, ◌≤◌, ◌⊎◌, ◌||◌, ℕ, true, false, List, drop, Option, Some, Ok, Err, IfOk, IfSome, OnErr, OnOk, IsErr, is_some};
+ghost use Rattle.std.specs.Prelude.{◌≡◌, ◌≤◌, ◌⊎◌, ◌||◌, ℕ, true, false, List, drop, Option, Some, Ok, Err, IfOk};
+ghost use Rattle.std.specs.Prelude.{IfSome, OnErr, OnOk, IsErr, is_some};
 ghost use Rattle.std.specs.List.{AllByRecursion};
 ghost use Rattle.std.specs.Str.{bytes_eq};
 ghost use Rattle.sccs_base.specs.Name.{IsSFileName, y_file};
@@ -28,7 +29,8 @@ ghost use Rattle.sccs_table.specs.FrontFile.{IsPlaced};
 ghost use Rattle.sccs_changes.specs.PFiles.{OnlyReads};
 ghost use Rattle.sccs_changes.specs.Pending.{bytes_at};
 ghost use Rattle.sccs_get.specs.Located.{AnswersLocated};
-ghost use Rattle.sccs_get.specs.VersionStep.{found_version, get_action, get_effect, lines_got, says_well, version_checks, writes_g};
+ghost use Rattle.sccs_get.specs.VersionStep.{found_version, get_action, get_effect, lines_got, says_well};
+ghost use Rattle.sccs_get.specs.VersionStep.{version_checks, writes_g};
 ghost use Rattle.sccs_get.specs.Keeps.{get_keeps};
 ghost use Rattle.sccs_get.specs.Reports.{replaces_keywords};
 ghost use Rattle.sccs_get.specs.Whole.{GivesAsked};
@@ -79,7 +81,8 @@ fn locate<D: Disk>(
     disk: &mut D,
 ) -> Result<Located, StepFault>
     requires { IsSFileName name.now }
-    ensures told { IfSome (seen (D.told disk.old)) (λ (v : View). AnswersLocated get.now.words.now get.now.stamp.now get.now.place.now name.now (look v name.now) result) }
+    ensures told { IfSome (seen (D.told disk.old)) (λ (v : View). AnswersLocated get.now.words.now get.now.stamp.now
+        get.now.place.now name.now (look v name.now) result) }
     ensures rules { IfOk result (λ l. IsHeader l.front.header) }
     ensures spelled { IfOk result (λ l. AllByRecursion HasSpelling l.front.header.records) }
     ensures table { IfOk result (λ l. Falls 65536 (serials_of l.front.header.records)) }
@@ -87,7 +90,8 @@ fn locate<D: Disk>(
     ensures no_zero { IfOk result (λ l. has l.found.set 0 ≡ false) }
     ensures facts { IfOk result (λ l. IfSome l.found.facts HasMoments) }
     ensures replaced { IfOk result (λ l. is_some l.found.facts ≡ replaces_keywords get.now.words.now) }
-    ensures found { IfOk result (λ l. found_version get.now.words.now get.now.stamp.now get.now.place.now name.now l.front.header ≡ Ok l.found) }
+    ensures found { IfOk result (λ l. found_version get.now.words.now get.now.stamp.now get.now.place.now name.now
+        l.front.header ≡ Ok l.found) }
     ensures checks { RefusesWithin version_checks result }
     ensures frame { OnlyReads D.told D.faults disk.old disk.new result }
 {
@@ -118,17 +122,24 @@ fn ready<O: Sink, D: Disk>(
     requires no_zero { has located.now.found.set 0 ≡ false }
     requires facts { IfSome located.now.found.facts HasMoments }
     requires replaced { is_some located.now.found.facts ≡ replaces_keywords get.now.words.now }
-    requires found { found_version get.now.words.now get.now.stamp.now get.now.place.now name.now located.now.front.header ≡ Ok located.now.found }
-    ensures readies { (parsed : Parsed) (err : Option (List ℕ)) → IfSome (seen (D.told disk.old)) (λ (v : View). ShowsFile (bytes_at (v name.now)) parsed located.now.front → (answer file_of (bytes_at (v name.now)) ≡ Ok parsed)
-        → Readies get.now.words.now name.now (Ok (get_effect get.now.words.now get.now.heading name.now parsed.header.records (look v name.now) located.now.found (lines_got located.now.found parsed.items))) result
+    requires found { found_version get.now.words.now get.now.stamp.now get.now.place.now name.now
+        located.now.front.header ≡ Ok located.now.found }
+    ensures readies { (parsed : Parsed) (err : Option (List ℕ)) → IfSome (seen (D.told disk.old))
+        (λ (v : View). ShowsFile (bytes_at (v name.now)) parsed located.now.front
+        → (answer file_of (bytes_at (v name.now)) ≡ Ok parsed)
+        → Readies get.now.words.now name.now
+        (Ok (get_effect get.now.words.now get.now.heading name.now parsed.header.records
+        (look v name.now) located.now.found (lines_got located.now.found parsed.items))) result
         (world (Some v) (O.given out.old) err) (world (seen (D.told disk.new)) (O.given out.new) err)) }
     ensures moves { Moves (bytes_eq (y_file name.now)) (λ v. v) (seen (D.told disk.old)) (seen (D.told disk.new)) }
     ensures there { OnOk result (writes_g get.now.words.now ≡ true → IsThere (y_file name.now) (D.told disk.new)) }
     ensures touches { TouchesOnly (bytes_eq (y_file name.now)) (D.told disk.old) (D.told disk.new) }
-    ensures firm { OnOk result (writes_g get.now.words.now ≡ true → Leaves (IsFirm (y_file name.now)) (D.told disk.old) (D.told disk.new)) }
+    ensures firm { OnOk result (writes_g get.now.words.now ≡ true → Leaves (IsFirm (y_file name.now)) (D.told disk.old)
+        (D.told disk.new)) }
     ensures same { writes_g get.now.words.now ≡ false → D.told disk.new ≡ D.told disk.old }
     ensures whole { IfOk result (λ p. get.now.words.now.no_text ≡ false
-        → GivesAsked get.now.words.now get.now.stamp.now get.now.place.now get.now.heading name.now p (O.given out.old) (O.given out.new) (seen (D.told disk.new))) }
+        → GivesAsked get.now.words.now get.now.stamp.now get.now.place.now get.now.heading name.now p (O.given out.old)
+        (O.given out.new) (seen (D.told disk.new))) }
     ensures says { IfOk result (λ p. says_well get.now.words.now p.message ≡ true) }
     ensures checks { RefusesWithin version_checks result }
     ensures causes { PrintCauses result (O.faults out.old) (O.faults out.new) (D.faults disk.old) (D.faults disk.new) }
@@ -151,11 +162,15 @@ fn ready<O: Sink, D: Disk>(
 fn place<D: Disk>(words: &GetWords, name: &Name, disk: &mut D) -> Result<(), StepFault>
     requires sfile { IsSFileName name.now }
     requires there { writes_g words.now ≡ true → IsThere (y_file name.now) (D.told disk.old) }
-    ensures view { OnOk result (Becomes (g_placed words.now name.now) (seen (D.told disk.old)) (seen (D.told disk.new))) }
-    ensures halfway { OnErr result (MayBecome (g_placed words.now name.now) (seen (D.told disk.old)) (seen (D.told disk.new))) }
+    ensures view { OnOk result (Becomes (g_placed words.now name.now) (seen (D.told disk.old))
+        (seen (D.told disk.new))) }
+    ensures halfway { OnErr result (MayBecome (g_placed words.now name.now) (seen (D.told disk.old))
+        (seen (D.told disk.new))) }
     ensures stopped { OnErr result (PlaceStops name.now (drop 2 name.now) (D.told disk.old) (D.told disk.new)) }
-    ensures calm { OnOk result (writes_g words.now ≡ true → PlaceEnds name.now (drop 2 name.now) (D.told disk.old) (D.told disk.new)) }
-    ensures others { KeepsOthers (λ k. bytes_eq (y_file name.now) k || bytes_eq (drop 2 name.now) k) (D.told disk.old) (D.told disk.new) }
+    ensures calm { OnOk result (writes_g words.now ≡ true → PlaceEnds name.now (drop 2 name.now) (D.told disk.old)
+        (D.told disk.new)) }
+    ensures others { KeepsOthers (λ k. bytes_eq (y_file name.now) k || bytes_eq (drop 2 name.now) k) (D.told disk.old)
+        (D.told disk.new) }
     ensures same { writes_g words.now ≡ false → D.told disk.new ≡ D.told disk.old }
     ensures fault { OnErr result (result ≡ Err faults.DiskFault) }
     ensures causes { DiskCauses (IsErr result) (D.faults disk.old) (D.faults disk.new) }
@@ -181,12 +196,15 @@ fn finish<O: Sink, E: Sink, D: Disk>(
     requires sfile { IsSFileName name.now }
     requires there { writes_g words.now ≡ true → IsThere (y_file name.now) (D.told disk.old) }
     ensures finishes { FinishesGet words.now name.now prepared.now result
-        (world (seen (D.told disk.old)) (O.given out.old) (E.given err.old)) (world (seen (D.told disk.new)) (O.given out.new) (E.given err.new)) }
+        (world (seen (D.told disk.old)) (O.given out.old) (E.given err.old)) (world (seen (D.told disk.new))
+        (O.given out.new) (E.given err.new)) }
     ensures places { PlacesG words.now name.now result (D.told disk.old) (D.told disk.new) }
-    ensures others { KeepsOthers (λ k. bytes_eq (y_file name.now) k || bytes_eq (drop 2 name.now) k) (D.told disk.old) (D.told disk.new) }
+    ensures others { KeepsOthers (λ k. bytes_eq (y_file name.now) k || bytes_eq (drop 2 name.now) k) (D.told disk.old)
+        (D.told disk.new) }
     ensures same { writes_g words.now ≡ false → D.told disk.new ≡ D.told disk.old }
     ensures causes { (input : ℕ) → StepCauses result
-        (counts input (O.faults out.old) (E.faults err.old) (D.faults disk.old)) (counts input (O.faults out.new) (E.faults err.new) (D.faults disk.new)) }
+        (counts input (O.faults out.old) (E.faults err.old) (D.faults disk.old)) (counts input (O.faults out.new)
+        (E.faults err.new) (D.faults disk.new)) }
 {
     place(words, name, disk)?;
     report(prepared, out, err)
@@ -204,7 +222,8 @@ fn give_up<D: Disk>(
     ensures touches { TouchesOnly (bytes_eq (y_file name.now)) (D.told disk.old) (D.told disk.new) }
     ensures same { has_y ≡ false → D.told disk.new ≡ D.told disk.old }
     ensures later { D.faults disk.old ≤ D.faults disk.new }
-    ensures cause { result ≡ Err faults.DiskFault → (fault ≡ faults.DiskFault) × (D.faults disk.new ≡ D.faults disk.old) ⊎ Rose (D.faults disk.old) (D.faults disk.new) }
+    ensures cause { result ≡ Err faults.DiskFault → (fault ≡ faults.DiskFault) × (D.faults disk.new ≡ D.faults disk.old)
+        ⊎ Rose (D.faults disk.old) (D.faults disk.new) }
 {
     if let StepFault::DiskFault = fault {
         return Err(fault);

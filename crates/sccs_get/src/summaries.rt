@@ -39,7 +39,8 @@ pub fn give_summary<O: Sink, D: Disk>(
 ) -> Result<(), StepFault>
     requires sfile { IsSFileName name.now }
     requires spelled { AllByRecursion HasSpelling front.now.header.records }
-    ensures gives { (err : Option (List ℕ)) → GivesSummary words.now name.now (summary_got words.now front.now.header.records found.now) result
+    ensures gives { (err : Option (List ℕ)) → GivesSummary words.now name.now
+        (summary_got words.now front.now.header.records found.now) result
         (world (seen (D.told disk.old)) (O.given out.old) err) (world (seen (D.told disk.new)) (O.given out.new) err) }
     ensures stops { LosesNothing (D.told disk.old) (D.told disk.new) }
     ensures others { KeepsOthers (is_summary name.now) (D.told disk.old) (D.told disk.new) }

@@ -58,8 +58,10 @@ pub fn asked_of(alloc: Global, header: &Header, words: &GetWords) -> Result<Aske
     ensures value { Answers (asked words.now header.now) result }
     ensures no_zero { IfOk result (λ a. has a.set 0 ≡ false) }
     ensures live { IfOk result (λ a. has (live_serials header.now.records) a.target ≡ true) }
-    ensures include { IfOk result (λ a. AllByRecursion (λ n. has (live_serials header.now.records) n ≡ true) a.include) }
-    ensures exclude { IfOk result (λ a. AllByRecursion (λ n. has (live_serials header.now.records) n ≡ true) a.exclude) }
+    ensures include { IfOk result (λ a. AllByRecursion (λ n. has (live_serials header.now.records) n ≡ true)
+        a.include) }
+    ensures exclude { IfOk result (λ a. AllByRecursion (λ n. has (live_serials header.now.records) n ≡ true)
+        a.exclude) }
     ensures checks { RefusesWithin asked_checks result }
     ensures broke { result ≢ Err faults.DiskFault }
 {

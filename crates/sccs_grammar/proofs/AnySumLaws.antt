@@ -21,13 +21,15 @@ opened_by_case : (file : List ℕ) (r : Result Opened FileFault) → opened file
 opened_by_case file (Ok o) is = judged_by file o (sum_holds o) is refl
 opened_by_case file (Err e) is = inl (unopened_by file e is)
 
-pub passed_over : (file : List ℕ) → (file_of file ≡ unsummed_file file) ⊎ ((stored plain : ℕ) × (file_of file ≡ Err (BadSum stored plain)))
+pub passed_over : (file : List ℕ) → (file_of file ≡ unsummed_file file)
+    ⊎ ((stored plain : ℕ) × (file_of file ≡ Err (BadSum stored plain)))
 passed_over file = opened_by_case file (opened file) refl
 
 -- what is read with its sum is read without it
 pub unsummed_ok : (file : List ℕ) (parsed : Parsed) → file_of file ≡ Ok parsed → unsummed_file file ≡ Ok parsed
 unsummed_ok file parsed is = by (passed_over file)
   where
-    by : (file_of file ≡ unsummed_file file) ⊎ ((stored plain : ℕ) × (file_of file ≡ Err (BadSum stored plain))) → unsummed_file file ≡ Ok parsed
+    by : (file_of file ≡ unsummed_file file) ⊎ ((stored plain : ℕ) × (file_of file ≡ Err (BadSum stored plain)))
+        → unsummed_file file ≡ Ok parsed
     by (inl same) = sym same ∙ is
     by (inr bad) = let both = sym is ∙ bad.2 in absurd cc

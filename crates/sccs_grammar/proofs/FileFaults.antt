@@ -1,5 +1,6 @@
 -- What the bytes of a file give is a whole file, or a fault that is a refusal.
-use Rattle.std.proofs.Common.{◌≡◌, ℕ, Bool, true, false, List, [], ◌∷◌, length, Option, None, Some, IsSome, Result, Ok, Err, nat_lt, refl, subst, if◌then◌else◌}
+use Rattle.std.proofs.Common.{◌≡◌, ℕ, Bool, true, false, List, [], ◌∷◌, length, Option, None, Some, IsSome, Result, Ok}
+use Rattle.std.proofs.Common.{Err, nat_lt, refl, subst, if◌then◌else◌}
 use Rattle.sccs_base.specs.Cut.{cut}
 use Rattle.sccs_sid.specs.Reading.{◌>>=◌}
 use Rattle.sccs_history.specs.Applied.{live_serials}
@@ -8,7 +9,8 @@ use Rattle.sccs_history.specs.declared.headers.Header.{Header}
 use Rattle.sccs_history.specs.declared.headers.Item.{Item}
 use Rattle.sccs_grammar.specs.Front.{start, front_from}
 use Rattle.sccs_tokens.specs.Items.{items_from}
-use Rattle.sccs_grammar.specs.File.{Opened, Parsed, answer, as_format, checked_front, file_of, not_encoded, opened, opened_by, opened_cut, stored, sum_holds, summed, within_limit}
+use Rattle.sccs_grammar.specs.File.{Opened, Parsed, answer, as_format, checked_front, file_of, not_encoded, opened}
+use Rattle.sccs_grammar.specs.File.{opened_by, opened_cut, stored, sum_holds, summed, within_limit}
 use Rattle.sccs_tokens.specs.Sums.{plain_sum}
 use Rattle.sccs_grammar.specs.FileRefusals.{refusal_of}
 use Rattle.sccs_grammar.specs.declared.faults.FileFault.{FileFault}
@@ -18,7 +20,8 @@ abbrev IsRead : {A : Type 0} → Result A FileFault → Type 0
 IsRead (Ok x) = Unit {0}
 IsRead (Err fault) = IsSome (refusal_of fault)
 
-joined : {A B : Type 0} (r : Result A FileFault) (f : A → Result B FileFault) → IsRead r → ((x : A) → IsRead (f x)) → IsRead (r >>= f)
+joined : {A B : Type 0} (r : Result A FileFault) (f : A → Result B FileFault) → IsRead r → ((x : A) → IsRead (f x))
+    → IsRead (r >>= f)
 joined (Ok x) f one rest = rest x
 joined (Err fault) f one rest = one
 
@@ -54,7 +57,8 @@ limit_read bytes = either (nat_lt 1073741824 (length bytes)) (Err TooLong) (Ok b
 front_read : (bytes : List ℕ) → IsRead (checked_front bytes)
 unfolding checked_front
 front_read bytes =
-    joined (opened bytes) _ (opened_read bytes) (λ o. joined (summed o) _ (sum_read o) (λ p. format_read (front_from 2 start p.lines)))
+    joined (opened bytes) _ (opened_read bytes) (λ o. joined (summed o) _ (sum_read o)
+    (λ p. format_read (front_from 2 start p.lines)))
 
 parsed_of : Header → List Item → Parsed
 parsed_of h items = record { header = h; items = items }
@@ -62,7 +66,10 @@ parsed_of h items = record { header = h; items = items }
 file_read : (bytes : List ℕ) → IsRead (file_of bytes)
 unfolding file_of parsed_of
 file_read bytes =
-    joined (checked_front bytes) _ (front_read bytes) (λ f. joined (as_format (items_from (live_serials f.header.records) f.line [] f.rest (cut bytes).tail)) _ (format_read (items_from (live_serials f.header.records) f.line [] f.rest (cut bytes).tail)) (λ items. plain_read f.header (parsed_of f.header items)))
+    joined (checked_front bytes) _ (front_read bytes)
+    (λ f. joined (as_format (items_from (live_serials f.header.records) f.line [] f.rest (cut bytes).tail)) _
+    (format_read (items_from (live_serials f.header.records) f.line [] f.rest (cut bytes).tail))
+    (λ items. plain_read f.header (parsed_of f.header items)))
 
 answer_read : (o : Option (List ℕ)) → IsRead (answer file_of o)
 answer_read None = refl

@@ -30,7 +30,18 @@ token_end_description = refl
 
 -- the last line of a header
 last_line : (n : ℕ) (entries : Entries) (users : List (List ℕ)) (flags : List Flag) (description rest : List (List ℕ))
-    → front_from n (at_description entries users flags description) (mark 84 ∷ rest) ≡ Ok (record { header = record { records = entries.records; users = users; flags = flags; description = description }; line = suc n; rest = rest })
+    → front_from n (at_description entries users flags description) (mark 84 ∷ rest) ≡ Ok
+    (record {
+      header = record {
+        records = entries.records;
+        users = users;
+        flags = flags;
+        description =
+            description;
+      };
+      line = suc n;
+      rest = rest;
+    })
 unfolding front_from line_after
 last_line n entries users flags description rest = rw token_end_description refl
 
@@ -42,7 +53,8 @@ abbrev parts_of : List Record → Header → Header
 parts_of records h = record { records = records; users = h.users; flags = h.flags; description = h.description }
 
 behind_again : (n : ℕ) (entries : Entries) (h : Header) (rest : List (List ℕ)) → IsHeader h
-    → (m : ℕ) × (front_from n (at_users entries []) (behind_table h rest) ≡ Ok (record { header = parts_of entries.records h; line = m; rest = rest }))
+    → (m : ℕ) × (front_from n (at_users entries []) (behind_table h rest) ≡ Ok
+    (record { header = parts_of entries.records h; line = m; rest = rest }))
 behind_again n entries h rest is =
     let last = mark 84 ∷ rest in
     let lines = h.description ++ last in
@@ -52,9 +64,11 @@ behind_again n entries h rest is =
     let n3 = suc n2 + length h.description in (
       suc n3,
       users_again n entries [] h.users (mark 85 ∷ flags) is.users
-          ∙ (says n1 (at_users entries h.users) (at_flags entries h.users []) (mark 85) flags EndUsers token_end_users refl refl
+          ∙ (says n1 (at_users entries h.users) (at_flags entries h.users []) (mark 85) flags EndUsers token_end_users
+          refl refl
           ∙ (flags_again (suc n1) entries h.users h.flags (mark 116 ∷ lines) is.flags is.letters
-          ∙ (says n2 (at_flags entries h.users h.flags) (at_description entries h.users h.flags []) (mark 116) lines Description token_description refl refl
+          ∙ (says n2 (at_flags entries h.users h.flags) (at_description entries h.users h.flags [])
+          (mark 116) lines Description token_description refl refl
           ∙ (description_again (suc n2) entries h.users h.flags [] h.description last is.description
           ∙ last_line n3 entries h.users h.flags h.description rest)))),
     )
@@ -62,11 +76,13 @@ behind_again n entries h rest is =
 pub header_again : (n : ℕ) (h : Header) (rest : List (List ℕ)) → IsHeader h → IsSpelled h
     → (m : ℕ) × (front_from n start (header_lines h rest) ≡ Ok (record { header = h; line = m; rest = rest }))
 header_again n h rest is spells =
-    let table = whole_table n h.records (mark 117 ∷ behind_table h rest) is.table.falls is.table.each spells.records is.table.sids in
+    let table = whole_table n h.records (mark 117 ∷ behind_table h rest) is.table.falls is.table.each spells.records
+    is.table.sids in
     let entries : Entries = record { records = h.records; lines = table.1.0 } in
     let behind = behind_again (suc table.0) entries h rest is in (
       behind.0,
       table.1.1
-          ∙ (says table.0 (at_table entries) (at_users entries []) (mark 117) (behind_table h rest) Users token_users (rw (none_lost h.records h.records table.1.0 is.table.each, is.table.some) refl) refl
+          ∙ (says table.0 (at_table entries) (at_users entries []) (mark 117) (behind_table h rest) Users token_users
+          (rw (none_lost h.records h.records table.1.0 is.table.each, is.table.some) refl) refl
           ∙ behind.1),
     )

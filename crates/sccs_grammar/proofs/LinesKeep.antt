@@ -21,18 +21,26 @@ Gives H read = IfOk read (λ p. H p.header)
 -- the header that is whole with a line, or what the lines behind it make
 abbrev on_with : ℕ → List (List ℕ) → HeaderParser → Result ParsedFront ℕ
 on_with n lines s =
-    if is_whole s.state then Ok (record { header = header_of s; line = suc n; rest = lines }) else front_from (suc n) s lines
+    if is_whole s.state then Ok (record { header = header_of s; line = suc n; rest = lines })
+    else front_from (suc n) s lines
 
-on_so : (L : List ℕ → Type 0) (K : HeaderParser → Type 0) (H : Header → Type 0) → Kept L K H → (n : ℕ) (lines : List (List ℕ)) (s : HeaderParser) → K s → (is_whole s.state ≡ true) ⊎ (is_whole s.state ≡ false) → Gives H (front_from (suc n) s lines) → Gives H (on_with n lines s)
+on_so : (L : List ℕ → Type 0) (K : HeaderParser → Type 0) (H : Header → Type 0) → Kept L K H
+    → (n : ℕ) (lines : List (List ℕ)) (s : HeaderParser) → K s → (is_whole s.state ≡ true) ⊎ (is_whole s.state ≡ false)
+    → Gives H (front_from (suc n) s lines) → Gives H (on_with n lines s)
 on_so L K H kept n lines s has (inl is) more = rw is (kept.whole s is has)
 on_so L K H kept n lines s has (inr other) more = rw other more
 
-line_on : (L : List ℕ → Type 0) (K : HeaderParser → Type 0) (H : Header → Type 0) → Kept L K H → (n : ℕ) (lines : List (List ℕ)) (read : Result HeaderParser ℕ) → IfOk read K → ((s : HeaderParser) → K s → Gives H (front_from (suc n) s lines)) → Gives H (read >>= on_with n lines)
+line_on : (L : List ℕ → Type 0) (K : HeaderParser → Type 0) (H : Header → Type 0) → Kept L K H
+    → (n : ℕ) (lines : List (List ℕ)) (read : Result HeaderParser ℕ) → IfOk read K → ((s : HeaderParser) → K s
+    → Gives H (front_from (suc n) s lines)) → Gives H (read >>= on_with n lines)
 line_on L K H kept n lines (Ok s) has more = on_so L K H kept n lines s has (cases_Bool (is_whole s.state)) (more s has)
 line_on L K H kept n lines (Err k) has more = tt
 
-pub lines_keep : (L : List ℕ → Type 0) (K : HeaderParser → Type 0) (H : Header → Type 0) → Kept L K H → (n : ℕ) (r : HeaderParser) (lines : List (List ℕ)) → AllByRecursion L lines → K r → IfOk (front_from n r lines) (λ p. H p.header)
+pub lines_keep : (L : List ℕ → Type 0) (K : HeaderParser → Type 0) (H : Header → Type 0) → Kept L K H
+    → (n : ℕ) (r : HeaderParser) (lines : List (List ℕ)) → AllByRecursion L lines → K r → IfOk (front_from n r lines)
+    (λ p. H p.header)
 unfolding front_from
 lines_keep L K H kept n r [] are has = tt
 lines_keep L K H kept n r (line ∷ lines) are has =
-    line_on L K H kept n lines (line_after n r line) (kept.line n r line are.0 has) (λ s now. lines_keep L K H kept (suc n) s lines are.1 now)
+    line_on L K H kept n lines (line_after n r line) (kept.line n r line are.0 has) (λ s now. lines_keep L K H kept
+    (suc n) s lines are.1 now)

@@ -1,5 +1,6 @@
 -- A header that is read of lines without LF has a spelling.
-use Rattle.std.proofs.Common.{◌≡◌, ◌≢◌, ℕ, ◌==◌, ◌⊎◌, inl, inr, Bool, true, false, ◌||◌, List, [], ◌∷◌, Option, Some, None, Ok}
+use Rattle.std.proofs.Common.{◌≡◌, ◌≢◌, ℕ, ◌==◌, ◌⊎◌, inl, inr, Bool, true, false, ◌||◌, List, [], ◌∷◌, Option, Some}
+use Rattle.std.proofs.Common.{None, Ok}
 use Rattle.std.specs.Prelude.{option_map}
 use Rattle.std.specs.List.{AllByRecursion}
 use Rattle.std.specs.Option.{IfSome}
@@ -16,16 +17,22 @@ use Rattle.sccs_history.specs.Numbers.{is_empty}
 use Rattle.sccs_history.specs.History.{AreLines, HasSpelling, IsSpelled}
 use Rattle.sccs_history.specs.declared.headers.Record.{Record}
 use Rattle.sccs_history.specs.declared.headers.Flag.{Flag}
-use Rattle.sccs_tokens.specs.Tokens.{serial, predecessor, is_removed, delta_of, delta_token, count_token, listed, text, flag, behind_soh, token}
-use Rattle.sccs_grammar.specs.Front.{ParsedFront, header_of, start, if_fits, in_texts, in_lists, ends_table, at_entry, at_delta, in_users, in_flags, in_description, after, accepted, line_after, front_from}
+use Rattle.sccs_tokens.specs.Tokens.{serial, predecessor, is_removed, delta_of, delta_token, count_token, listed, text}
+use Rattle.sccs_tokens.specs.Tokens.{flag, behind_soh, token}
+use Rattle.sccs_grammar.specs.Front.{ParsedFront, header_of, start, if_fits, in_texts, in_lists, ends_table, at_entry}
+use Rattle.sccs_grammar.specs.Front.{at_delta, in_users, in_flags, in_description, after, accepted, line_after}
+use Rattle.sccs_grammar.specs.Front.{front_from}
 use Rattle.sccs_grammar.specs.declared.header_parsers.TableEntry.{TableEntry}
 use Rattle.sccs_grammar.specs.declared.header_parsers.ListsSeen.{ListsSeen}
 use Rattle.sccs_grammar.specs.declared.header_parsers.HeaderState.{HeaderState}
-use Rattle.sccs_grammar.specs.declared.header_parsers.HeaderState.TheVariants.{AtEntry, AtDelta, InLists, InTexts, InUsers, InFlags, InDescription, AtBody}
+use Rattle.sccs_grammar.specs.declared.header_parsers.HeaderState.TheVariants.{AtEntry, AtDelta, InLists, InTexts}
+use Rattle.sccs_grammar.specs.declared.header_parsers.HeaderState.TheVariants.{InUsers, InFlags, InDescription, AtBody}
 use Rattle.sccs_grammar.specs.declared.header_parsers.PartialHeader.{PartialHeader}
 use Rattle.sccs_grammar.specs.declared.header_parsers.HeaderParser.{HeaderParser}
 use Rattle.sccs_tokens.specs.declared.line_tokens.LineToken.{LineToken}
-use Rattle.sccs_tokens.specs.declared.line_tokens.LineToken.TheVariants.{Counts, Delta, Listed, Mr, Comment, EndEntry, Users, EndUsers, FlagIs, Description, EndDescription, Plain}
+use Rattle.sccs_tokens.specs.declared.line_tokens.LineToken.TheVariants.{Counts, Delta, Listed, Mr, Comment, EndEntry}
+use Rattle.sccs_tokens.specs.declared.line_tokens.LineToken.TheVariants.{Users, EndUsers, FlagIs, Description}
+use Rattle.sccs_tokens.specs.declared.line_tokens.LineToken.TheVariants.{EndDescription, Plain}
 use Rattle.sccs_tokens.specs.declared.line_tokens.ListKind.{ListKind}
 use Rattle.sccs_tokens.specs.declared.line_tokens.ListKind.TheVariants.{Included, Excluded, Ignored}
 use Rattle.sccs_grammar.proofs.LinesKeep.{Kept, lines_keep}
@@ -51,18 +58,22 @@ Spells _ = Unit {0}
 bare : (t : List ℕ) → NoLf t → HasNoLf t
 bare t none = All-from_recursion (λ b. b ≢ 10) t none
 
-delta_of_spells : (kind sid date time login own before : List ℕ) → IfSome (delta_of kind sid date time login own before) Spells
+delta_of_spells : (kind sid date time login own before : List ℕ) → IfSome (delta_of kind sid date time login own before)
+    Spells
 unfolding delta_of
 delta_of_spells kind sid date time login own before =
     then_any Spells (is_removed kind) _ λ removed.
     then_some IsSid Spells (found (sid_of sid)) _ (found_so IsSid (sid_of sid) (sid_is sid)) λ s is_sid.
-    then_some IsMoment Spells (found (moment_of date time)) _ (found_so IsMoment (moment_of date time) (moment_is date time)) λ m is_moment.
-    then_some IsLogin Spells (only (is_login login) login) _ (only_so IsLogin (is_login login) login (λ is. (login_decides login).0 is)) λ who is_who.
+    then_some IsMoment Spells (found (moment_of date time)) _ (found_so IsMoment (moment_of date time)
+    (moment_is date time)) λ m is_moment.
+    then_some IsLogin Spells (only (is_login login) login) _ (only_so IsLogin (is_login login) login
+    (λ is. (login_decides login).0 is)) λ who is_who.
     then_any Spells (serial own) _ λ n.
     then_any Spells (predecessor before) _ λ p. (is_sid, is_moment, is_who, tt, tt)
 
 delta_spells : (ws : List (List ℕ)) → IfSome (delta_token ws) Spells
-delta_spells (kind ∷ sid ∷ date ∷ time ∷ login ∷ own ∷ before ∷ []) = delta_of_spells kind sid date time login own before
+delta_spells (kind ∷ sid ∷ date ∷ time ∷ login ∷ own ∷ before ∷ []) =
+    delta_of_spells kind sid date time login own before
 delta_spells _ = tt
 
 counts_spell : (ws : List (List ℕ)) → IfSome (count_token ws) Spells
@@ -88,7 +99,9 @@ comment_spells (Some t) none = none
 flag_spells : (bytes : List ℕ) → NoLf bytes → IfSome (flag bytes) Spells
 flag_spells [] none = tt
 flag_spells (letter ∷ bytes) none =
-    only_so Spells (is_empty bytes || begins_blank bytes) (FlagIs (record { letter = letter; text = drop_blanks (skip_blanks bytes) })) λ is. bare (drop_blanks (skip_blanks bytes)) (no_lf_drop (skip_blanks bytes) (no_lf_skip bytes none.1))
+    only_so Spells (is_empty bytes || begins_blank bytes)
+    (FlagIs (record { letter = letter; text = drop_blanks (skip_blanks bytes) })) λ is.
+    bare (drop_blanks (skip_blanks bytes)) (no_lf_drop (skip_blanks bytes) (no_lf_skip bytes none.1))
 
 each_spells : (letter : ℕ) (bytes : List ℕ) → NoLf bytes → EachKeeps Spells letter bytes
 each_spells letter bytes none = record {
@@ -112,7 +125,8 @@ behind_spells : (bytes : List ℕ) → NoLf bytes → IfSome (behind_soh bytes) 
 behind_spells [] none = tt
 behind_spells (letter ∷ bytes) none = control_keeps Spells letter bytes (each_spells letter bytes none.1)
 
-line_spells : (b : ℕ) (bytes : List ℕ) → (b == 1 ≡ true) ⊎ (b == 1 ≡ false) → NoLf (b ∷ bytes) → IfSome (token (b ∷ bytes)) Spells
+line_spells : (b : ℕ) (bytes : List ℕ) → (b == 1 ≡ true) ⊎ (b == 1 ≡ false) → NoLf (b ∷ bytes)
+    → IfSome (token (b ∷ bytes)) Spells
 unfolding token
 line_spells b bytes (inl is) none = rw is (behind_spells bytes none.1)
 line_spells b bytes (inr other) none = rw other (bare (b ∷ bytes) none)
@@ -131,7 +145,8 @@ SpelledEntry _ = Unit {0}
 
 abbrev pub SpelledParts : PartialHeader → Type 0
 SpelledParts parts =
-    AllByRecursion Spelled parts.table.records × AreLines parts.users × AllByRecursion (λ (f : Flag). HasNoLf f.text) parts.flags × AreLines parts.description
+    AllByRecursion Spelled parts.table.records × AreLines parts.users × AllByRecursion (λ (f : Flag). HasNoLf f.text)
+    parts.flags × AreLines parts.description
 
 -- what is read so far has a spelling
 abbrev pub IsSpelledSoFar : HeaderParser → Type 0
@@ -141,47 +156,63 @@ fits : (t : Bool) (n : ℕ) (r : HeaderParser) → IsSpelledSoFar r → IfOk (if
 fits true n r h = h
 fits false n r h = tt
 
-texts_spell : (n : ℕ) (parts : PartialHeader) (e : TableEntry) (s : LineToken) → Spelled e.row → SpelledParts parts → Spells s → IfOk (in_texts n parts e s) IsSpelledSoFar
-texts_spell n parts e (Mr t) row rest spells = ((row.0, row.1, row.2, all_push HasNoLf e.row.mrs t row.3 spells, row.4), rest)
-texts_spell n parts e (Comment t) row rest spells = ((row.0, row.1, row.2, row.3, all_push HasNoLf e.row.comments t row.4 spells), rest)
-texts_spell n parts e EndEntry row rest spells = (tt, (all_push Spelled parts.table.records e.row rest.0 row, rest.1, rest.2, rest.3))
+texts_spell : (n : ℕ) (parts : PartialHeader) (e : TableEntry) (s : LineToken) → Spelled e.row → SpelledParts parts
+    → Spells s → IfOk (in_texts n parts e s) IsSpelledSoFar
+texts_spell n parts e (Mr t) row rest spells = (
+  (row.0, row.1, row.2, all_push HasNoLf e.row.mrs t row.3 spells, row.4),
+  rest,
+)
+texts_spell n parts e (Comment t) row rest spells =
+    ((row.0, row.1, row.2, row.3, all_push HasNoLf e.row.comments t row.4 spells), rest)
+texts_spell n parts e EndEntry row rest spells =
+    (tt, (all_push Spelled parts.table.records e.row rest.0 row, rest.1, rest.2, rest.3))
 texts_spell n parts e _ row rest spells = tt
 
-lists_spell : (n : ℕ) (parts : PartialHeader) (e : TableEntry) (seen : ListsSeen) (s : LineToken) → Spelled e.row → SpelledParts parts → Spells s → IfOk (in_lists n parts e seen s) IsSpelledSoFar
+lists_spell : (n : ℕ) (parts : PartialHeader) (e : TableEntry) (seen : ListsSeen) (s : LineToken) → Spelled e.row
+    → SpelledParts parts → Spells s → IfOk (in_lists n parts e seen s) IsSpelledSoFar
 lists_spell n parts e seen (Listed Included ns) row rest spells = fits _ n _ (row, rest)
 lists_spell n parts e seen (Listed Excluded ns) row rest spells = fits _ n _ (row, rest)
 lists_spell n parts e seen (Listed Ignored ns) row rest spells = fits _ n _ (row, rest)
 lists_spell n parts e seen s row rest spells = texts_spell n parts e s row rest spells
 
-table_spells : (n : ℕ) (parts : PartialHeader) (o : Option ℕ) → SpelledParts parts → IfOk (ends_table n parts o) IsSpelledSoFar
+table_spells : (n : ℕ) (parts : PartialHeader) (o : Option ℕ) → SpelledParts parts
+    → IfOk (ends_table n parts o) IsSpelledSoFar
 table_spells n parts (Some line) rest = tt
 table_spells n parts None rest = fits _ n _ (tt, rest)
 
-entry_spells : (n : ℕ) (parts : PartialHeader) (s : LineToken) → SpelledParts parts → IfOk (at_entry n parts s) IsSpelledSoFar
+entry_spells : (n : ℕ) (parts : PartialHeader) (s : LineToken) → SpelledParts parts
+    → IfOk (at_entry n parts s) IsSpelledSoFar
 entry_spells n parts (Counts i d u) rest = (tt, rest)
 entry_spells n parts Users rest = table_spells n parts _ rest
 entry_spells n parts _ rest = tt
 
-delta_line_spells : (n : ℕ) (parts : PartialHeader) (i d u : ℕ) (s : LineToken) → SpelledParts parts → Spells s → IfOk (at_delta n parts i d u s) IsSpelledSoFar
+delta_line_spells : (n : ℕ) (parts : PartialHeader) (i d u : ℕ) (s : LineToken) → SpelledParts parts → Spells s
+    → IfOk (at_delta n parts i d u s) IsSpelledSoFar
 delta_line_spells n parts i d u (Delta row) rest spells = fits _ n _ (spells, rest)
 delta_line_spells n parts i d u _ rest spells = tt
 
-users_spell : (n : ℕ) (parts : PartialHeader) (s : LineToken) → SpelledParts parts → Spells s → IfOk (in_users n parts s) IsSpelledSoFar
+users_spell : (n : ℕ) (parts : PartialHeader) (s : LineToken) → SpelledParts parts → Spells s
+    → IfOk (in_users n parts s) IsSpelledSoFar
 users_spell n parts (Plain t) rest spells = (tt, (rest.0, all_push HasNoLf parts.users t rest.1 spells, rest.2, rest.3))
 users_spell n parts EndUsers rest spells = (tt, rest)
 users_spell n parts _ rest spells = tt
 
-flags_spell : (n : ℕ) (parts : PartialHeader) (s : LineToken) → SpelledParts parts → Spells s → IfOk (in_flags n parts s) IsSpelledSoFar
-flags_spell n parts (FlagIs f) rest spells = fits _ n _ (tt, (rest.0, rest.1, all_push (λ (g : Flag). HasNoLf g.text) parts.flags f rest.2 spells, rest.3))
+flags_spell : (n : ℕ) (parts : PartialHeader) (s : LineToken) → SpelledParts parts → Spells s
+    → IfOk (in_flags n parts s) IsSpelledSoFar
+flags_spell n parts (FlagIs f) rest spells =
+    fits _ n _ (tt, (rest.0, rest.1, all_push (λ (g : Flag). HasNoLf g.text) parts.flags f rest.2 spells, rest.3))
 flags_spell n parts Description rest spells = (tt, rest)
 flags_spell n parts _ rest spells = tt
 
-description_spells : (n : ℕ) (parts : PartialHeader) (s : LineToken) → SpelledParts parts → Spells s → IfOk (in_description n parts s) IsSpelledSoFar
-description_spells n parts (Plain t) rest spells = (tt, (rest.0, rest.1, rest.2, all_push HasNoLf parts.description t rest.3 spells))
+description_spells : (n : ℕ) (parts : PartialHeader) (s : LineToken) → SpelledParts parts → Spells s
+    → IfOk (in_description n parts s) IsSpelledSoFar
+description_spells n parts (Plain t) rest spells =
+    (tt, (rest.0, rest.1, rest.2, all_push HasNoLf parts.description t rest.3 spells))
 description_spells n parts EndDescription rest spells = (tt, rest)
 description_spells n parts _ rest spells = tt
 
-after_spells : (n : ℕ) (parts : PartialHeader) (p : HeaderState) (s : LineToken) → SpelledEntry p → SpelledParts parts → Spells s → IfOk (after n parts p s) IsSpelledSoFar
+after_spells : (n : ℕ) (parts : PartialHeader) (p : HeaderState) (s : LineToken) → SpelledEntry p → SpelledParts parts
+    → Spells s → IfOk (after n parts p s) IsSpelledSoFar
 after_spells n parts AtEntry s row rest spells = entry_spells n parts s rest
 after_spells n parts (AtDelta i d u) s row rest spells = delta_line_spells n parts i d u s rest spells
 after_spells n parts (InLists e seen) s row rest spells = lists_spell n parts e seen s row rest spells
@@ -191,16 +222,19 @@ after_spells n parts InFlags s row rest spells = flags_spell n parts s rest spel
 after_spells n parts InDescription s row rest spells = description_spells n parts s rest spells
 after_spells n parts AtBody s row rest spells = tt
 
-heard_spells : (n : ℕ) (r : HeaderParser) (o : Option LineToken) → IsSpelledSoFar r → IfSome o Spells → IfOk (accepted n r o) IsSpelledSoFar
+heard_spells : (n : ℕ) (r : HeaderParser) (o : Option LineToken) → IsSpelledSoFar r → IfSome o Spells
+    → IfOk (accepted n r o) IsSpelledSoFar
 heard_spells n r None so_far spells = tt
 heard_spells n r (Some s) so_far spells = after_spells n r.parts r.state s so_far.0 so_far.1 spells
 
-line_so : (n : ℕ) (r : HeaderParser) (line : List ℕ) → HasNoLf line → IsSpelledSoFar r → IfOk (line_after n r line) IsSpelledSoFar
+line_so : (n : ℕ) (r : HeaderParser) (line : List ℕ) → HasNoLf line → IsSpelledSoFar r
+    → IfOk (line_after n r line) IsSpelledSoFar
 unfolding line_after
 line_so n r line none so_far =
     heard_spells n r (token line) so_far (token_spells line (recursion_from_All (λ b. b ≢ 10) line none))
 
-pub line_spelled : (n : ℕ) (r s : HeaderParser) (line : List ℕ) → HasNoLf line → line_after n r line ≡ Ok s → IsSpelledSoFar r → IsSpelledSoFar s
+pub line_spelled : (n : ℕ) (r s : HeaderParser) (line : List ℕ) → HasNoLf line → line_after n r line ≡ Ok s
+    → IsSpelledSoFar r → IsSpelledSoFar s
 line_spelled n r s line none is so_far = rw is at (line_so n r line none so_far)
 
 pub start_spelled : IsSpelledSoFar start
@@ -208,8 +242,10 @@ start_spelled = (tt, (tt, tt, tt, tt))
 
 records_spelled : (rs : List Record) → AllByRecursion Spelled rs → AllByRecursion HasSpelling rs
 records_spelled [] are = tt
-records_spelled (r ∷ rs) are =
-    (record { sid = are.0.0; moment = are.0.1; login = are.0.2; mrs = are.0.3; comments = are.0.4 }, records_spelled rs are.1)
+records_spelled (r ∷ rs) are = (
+  record { sid = are.0.0; moment = are.0.1; login = are.0.2; mrs = are.0.3; comments = are.0.4 },
+  records_spelled rs are.1,
+)
 
 pub whole_spelled : (s : HeaderParser) → IsSpelledSoFar s → IsSpelled (header_of s)
 whole_spelled s so_far = record {
@@ -224,6 +260,7 @@ whole_spelled s so_far = record {
 spelling_kept : Kept HasNoLf IsSpelledSoFar IsSpelled
 spelling_kept = record { line = line_so; whole = λ s is so_far. whole_spelled s so_far }
 
-pub lines_spelled : (n : ℕ) (lines : List (List ℕ)) (p : ParsedFront) → AreLines lines → front_from n start lines ≡ Ok p → IsSpelled p.header
+pub lines_spelled : (n : ℕ) (lines : List (List ℕ)) (p : ParsedFront) → AreLines lines → front_from n start lines ≡ Ok p
+    → IsSpelled p.header
 lines_spelled n lines p are is =
     rw is at (lines_keep HasNoLf IsSpelledSoFar IsSpelled spelling_kept n start lines are start_spelled)

@@ -1,5 +1,6 @@
 -- What is read of lines without LF has a spelling.
-use Rattle.std.proofs.Common.{◌≡◌, ℕ, zero, suc, ◌+◌, ◌*◌, ◌-◌, ◌<◌, ◌≤◌, ◌==◌, nat_lt, nat_le, ◌⊎◌, inl, inr, Bool, true, false, ◌&&◌, List, [], ◌∷◌, ◌++◌, Option, Some, None, Result, Ok, Err, refl, arith}
+use Rattle.std.proofs.Common.{◌≡◌, ℕ, zero, suc, ◌+◌, ◌*◌, ◌-◌, ◌<◌, ◌≤◌, ◌==◌, nat_lt, nat_le, ◌⊎◌, inl, inr, Bool}
+use Rattle.std.proofs.Common.{true, false, ◌&&◌, List, [], ◌∷◌, ◌++◌, Option, Some, None, Result, Ok, Err, refl, arith}
 use Rattle.std.specs.Prelude.{option_map, option_and_then, pos, if◌then◌else◌}
 use Rattle.std.specs.List.{AllByRecursion}
 use Rattle.std.specs.Result.{IfOk}
@@ -14,7 +15,8 @@ use Rattle.sccs_tokens.proofs.TokenRules.{digits_small}
 
 -- ---- steps of reading
 
-pub then_ok : {A B E : Type 0} (P : A → Type 0) (Q : B → Type 0) (r : Result A E) (f : A → Result B E) → IfOk r P → ((a : A) → P a → IfOk (f a) Q) → IfOk (r >>= f) Q
+pub then_ok : {A B E : Type 0} (P : A → Type 0) (Q : B → Type 0) (r : Result A E) (f : A → Result B E) → IfOk r P
+    → ((a : A) → P a → IfOk (f a) Q) → IfOk (r >>= f) Q
 then_ok P Q (Ok a) f h more = more a h
 then_ok P Q (Err e) f h more = tt
 
@@ -23,7 +25,8 @@ then_ok P Q (Err e) f h more = tt
 AreLow : List ℕ → Type 0
 AreLow ns = AllByRecursion (λ n. n < 10000) ns
 
-first_low : (b : ℕ) (bytes : List ℕ) → (nat_lt b 48 ≡ true) ⊎ (nat_lt b 48 ≡ false) → (nat_lt 57 b ≡ true) ⊎ (nat_lt 57 b ≡ false) → IfOk (number_at 4 (b ∷ bytes)) (λ x. x.0 < 10000)
+first_low : (b : ℕ) (bytes : List ℕ) → (nat_lt b 48 ≡ true) ⊎ (nat_lt b 48 ≡ false) → (nat_lt 57 b ≡ true)
+    ⊎ (nat_lt 57 b ≡ false) → IfOk (number_at 4 (b ∷ bytes)) (λ x. x.0 < 10000)
 unfolding number_at
 first_low b bytes (inl low) over = rw low tt
 first_low b bytes (inr least) (inl over) = rw (least, over) tt
@@ -37,11 +40,13 @@ unfolding number_at
 number_low [] = tt
 number_low (b ∷ bytes) = first_low b bytes (cases_Bool (nat_lt b 48)) (cases_Bool (nat_lt 57 b))
 
-dot_low : (test : Bool) (bytes : List ℕ) (left : ℕ) (more : List ℕ → Result (List ℕ) ℕ) → ((rest : List ℕ) → IfOk (more rest) AreLow) → IfOk ((if test then Ok bytes else Err left) >>= more) AreLow
+dot_low : (test : Bool) (bytes : List ℕ) (left : ℕ) (more : List ℕ → Result (List ℕ) ℕ)
+    → ((rest : List ℕ) → IfOk (more rest) AreLow) → IfOk ((if test then Ok bytes else Err left) >>= more) AreLow
 dot_low true bytes left more h = h bytes
 dot_low false bytes left more h = tt
 
-ended_low : (more : List ℕ → List ℕ → Result (List ℕ) ℕ) (found bytes : List ℕ) → AreLow found → ((rest : List ℕ) → IfOk (more found rest) AreLow) → IfOk (ended_sid more found bytes) AreLow
+ended_low : (more : List ℕ → List ℕ → Result (List ℕ) ℕ) (found bytes : List ℕ) → AreLow found
+    → ((rest : List ℕ) → IfOk (more found rest) AreLow) → IfOk (ended_sid more found bytes) AreLow
 unfolding byte_at
 ended_low more found [] are h = are
 ended_low more found (b ∷ bytes) are h = dot_low (b == 46) bytes _ (more found) h
@@ -56,11 +61,17 @@ numbers_low zero found bytes are = tt
 numbers_low (suc most) found bytes are =
     then_ok (λ x. x.0 < 10000) AreLow (number_at 4 bytes) _ (number_low bytes) λ n low.
     let grown = one_low found n.0 are low in
-    ended_low (numbers_after most) (found ++ n.0 ∷ []) n.1 grown (λ rest. numbers_low most (found ++ n.0 ∷ []) rest grown)
+    ended_low (numbers_after most) (found ++ n.0 ∷ []) n.1 grown (λ rest. numbers_low most (found ++ n.0 ∷ []) rest
+    grown)
 
 sid_low : (ns : List ℕ) → AreLow ns → IfOk (sid_of_numbers ns) IsSid
 unfolding AreLow
-sid_low (suc r ∷ suc l ∷ []) are = record { release = (omega arith, are.0); level = (omega arith, are.1.0); branch = refl }
+sid_low (suc r ∷ suc l ∷ []) are = record {
+  release = (omega arith, are.0);
+  level = (omega arith, are.1.0);
+  branch =
+      refl;
+}
 sid_low (suc r ∷ suc l ∷ suc b ∷ suc s ∷ []) are = record {
   release = (omega arith, are.0);
   level = (omega arith, are.1.0);
@@ -98,7 +109,8 @@ sid_is bytes = sid_read (numbers bytes) (numbers_low 4 [] bytes tt)
 Between : ℕ → ℕ → ℕ → Type 0
 Between low high n = (low ≤ n) × (n ≤ high)
 
-fits_within : (test : Bool) (low high n : ℕ) (place : ℕ) → (nat_le low n && nat_le n high) ≡ test → IfOk (within place low high (Some n)) (Between low high)
+fits_within : (test : Bool) (low high n : ℕ) (place : ℕ) → (nat_le low n && nat_le n high) ≡ test
+    → IfOk (within place low high (Some n)) (Between low high)
 unfolding Between
 fits_within true low high n place is =
     let parts = and_parts (nat_le low n) (nat_le n high) is in rw is (leb-true low n parts.0, leb-true n high parts.1)
@@ -111,7 +123,8 @@ within_is place low high (Some n) = fits_within (nat_le low n && nat_le n high) 
 unit_is : (place low high : ℕ) (piece : Option (List ℕ)) → IfOk (unit place low high piece) (Between low high)
 unit_is place low high piece = within_is place low high (option_and_then (number 2) piece)
 
-year_cases : (y : ℕ) → y ≤ 99 → (nat_lt y 69 ≡ true) ⊎ (nat_lt y 69 ≡ false) → (1969 ≤ full_year y) × (full_year y ≤ 2068)
+year_cases : (y : ℕ) → y ≤ 99 → (nat_lt y 69 ≡ true) ⊎ (nat_lt y 69 ≡ false) → (1969 ≤ full_year y)
+    × (full_year y ≤ 2068)
 year_cases y top (inl low) = let is = ltb-true y 69 low in rw low (omega arith, omega arith)
 year_cases y top (inr high) = let is = ltb-false y 69 high in rw high (omega arith, omega arith)
 
@@ -122,9 +135,13 @@ IsDate d =
 date_is : (date : List ℕ) → IfOk (date_of date) IsDate
 unfolding date_of IsDate Between
 date_is date =
-    then_ok (Between 0 99) IsDate (unit 1 0 99 (Some (until 47 date))) _ (unit_is 1 0 99 (Some (until 47 date))) λ y year.
-    then_ok (Between 1 12) IsDate (unit 2 1 12 (option_map (until 47) (behind 47 date))) _ (unit_is 2 1 12 (option_map (until 47) (behind 47 date))) λ m month.
-    then_ok (Between 1 (days_in_month (pos (full_year y)) m)) IsDate (unit 3 1 (days_in_month (pos (full_year y)) m) (option_and_then (behind 47) (behind 47 date))) _ (unit_is 3 1 (days_in_month (pos (full_year y)) m) (option_and_then (behind 47) (behind 47 date))) λ d day.
+    then_ok (Between 0 99) IsDate (unit 1 0 99 (Some (until 47 date))) _ (unit_is 1 0 99 (Some (until 47 date))) λ y
+    year.
+    then_ok (Between 1 12) IsDate (unit 2 1 12 (option_map (until 47) (behind 47 date))) _
+    (unit_is 2 1 12 (option_map (until 47) (behind 47 date))) λ m month.
+    then_ok (Between 1 (days_in_month (pos (full_year y)) m)) IsDate (unit 3 1 (days_in_month (pos (full_year y)) m)
+    (option_and_then (behind 47) (behind 47 date))) _ (unit_is 3 1 (days_in_month (pos (full_year y)) m)
+    (option_and_then (behind 47) (behind 47 date))) λ d day.
     (year_cases y year.1 (cases_Bool (nat_lt y 69)), month, day)
 
 IsTime : ℕ × ℕ × ℕ → Type 0
@@ -133,9 +150,12 @@ IsTime t = (t.0 < 24) × (t.1 < 60) × (t.2 < 60)
 time_is : (time : List ℕ) → IfOk (time_of time) IsTime
 unfolding time_of IsTime Between
 time_is time =
-    then_ok (Between 0 23) IsTime (unit 4 0 23 (Some (until 58 time))) _ (unit_is 4 0 23 (Some (until 58 time))) λ h hour.
-    then_ok (Between 0 59) IsTime (unit 5 0 59 (option_map (until 58) (behind 58 time))) _ (unit_is 5 0 59 (option_map (until 58) (behind 58 time))) λ m minute.
-    then_ok (Between 0 59) IsTime (unit 6 0 59 (option_and_then (behind 58) (behind 58 time))) _ (unit_is 6 0 59 (option_and_then (behind 58) (behind 58 time))) λ s second.
+    then_ok (Between 0 23) IsTime (unit 4 0 23 (Some (until 58 time))) _ (unit_is 4 0 23 (Some (until 58 time))) λ h
+    hour.
+    then_ok (Between 0 59) IsTime (unit 5 0 59 (option_map (until 58) (behind 58 time))) _
+    (unit_is 5 0 59 (option_map (until 58) (behind 58 time))) λ m minute.
+    then_ok (Between 0 59) IsTime (unit 6 0 59 (option_and_then (behind 58) (behind 58 time))) _
+    (unit_is 6 0 59 (option_and_then (behind 58) (behind 58 time))) λ s second.
     (omega (arith, hour.1), omega (arith, minute.1), omega (arith, second.1))
 
 pub moment_is : (date time : List ℕ) → IfOk (moment_of date time) IsMoment

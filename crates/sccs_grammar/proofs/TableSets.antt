@@ -1,5 +1,6 @@
 -- What a table keeps of its SIDs.
-use Rattle.std.proofs.Common.{◌≡◌, ℕ, ◌+◌, ◌*◌, ◌<◌, ◌≤◌, ◌==◌, Bool, true, false, not, cond, ◌&&◌, ◌||◌, List, [], ◌∷◌, ◌++◌, refl, sym, ap, ◌∙◌, arith}
+use Rattle.std.proofs.Common.{◌≡◌, ℕ, ◌+◌, ◌*◌, ◌<◌, ◌≤◌, ◌==◌, Bool, true, false, not, cond, ◌&&◌, ◌||◌, List, [], ◌∷◌}
+use Rattle.std.proofs.Common.{◌++◌, refl, sym, ap, ◌∙◌, arith}
 use Rattle.std.specs.Ordering.{is_eq}
 use Rattle.std.specs.BTreeSet.{BTreeSet, Updates, contains}
 use Rattle.std.proofs.lemmas.Bool.{and_parts, eqb-true}
@@ -25,7 +26,8 @@ chosen : (same there : Bool) → cond same true there ≡ (there || same)
 chosen true there = or_swap true there
 chosen false there = sym (or_none there)
 
-lives_more : (rs : List Record) (r : Record) (sid : Sid) → lives (rs ++ r ∷ []) sid ≡ (lives rs sid || (not r.removed && same_sid r.sid sid))
+lives_more : (rs : List Record) (r : Record) (sid : Sid) → lives (rs ++ r ∷ []) sid
+    ≡ (lives rs sid || (not r.removed && same_sid r.sid sid))
 lives_more rs r sid =
     list_any-append (λ (q : Record). not q.removed && same_sid q.sid sid) rs (r ∷ [])
     ∙ ap (λ rest. lives rs sid || rest) (or_none (not r.removed && same_sid r.sid sid))
@@ -42,7 +44,8 @@ sid_same a b =
 
 -- ---- one key more
 
-pub sids_more : (old new : BTreeSet (ℕ × ℕ × ℕ × ℕ)) (rs : List Record) (r : Record) → HasSids old rs → r.removed ≡ false → Updates four_cmp old new (sid_key r.sid) true → HasSids new (rs ++ r ∷ [])
+pub sids_more : (old new : BTreeSet (ℕ × ℕ × ℕ × ℕ)) (rs : List Record) (r : Record) → HasSids old rs
+    → r.removed ≡ false → Updates four_cmp old new (sid_key r.sid) true → HasSids new (rs ++ r ∷ [])
 sids_more old new rs r has_old live updates = λ sid.
     updates.0 (sid_key sid) ∙ (ap (λ same. cond same true (contains four_cmp old (sid_key sid))) (sid_same r.sid sid)
     ∙ (chosen (same_sid r.sid sid) (contains four_cmp old (sid_key sid))
@@ -56,15 +59,19 @@ of_four release level branch sequence = ((release * 65536 + level) * 65536 + bra
 
 same_number : (a b : Sid) → same_sid a b ≡ true → sid_number a ≡ sid_number b
 same_number a b is =
-    let release = and_parts (a.release == b.release) (a.level == b.level && (a.branch == b.branch && a.sequence == b.sequence)) is in
+    let release = and_parts (a.release == b.release) (a.level == b.level
+    && (a.branch == b.branch && a.sequence == b.sequence)) is in
     let level = and_parts (a.level == b.level) (a.branch == b.branch && a.sequence == b.sequence) release.1 in
     let last = and_parts (a.branch == b.branch) (a.sequence == b.sequence) level.1 in
     ap (λ r. of_four r a.level a.branch a.sequence) (eqb-true a.release b.release release.0)
     ∙ (ap (λ l. of_four b.release l a.branch a.sequence) (eqb-true a.level b.level level.0)
-    ∙ (ap (λ n. of_four b.release b.level n a.sequence) (eqb-true a.branch b.branch last.0) ∙ ap (of_four b.release b.level b.branch) (eqb-true a.sequence b.sequence last.1)))
+    ∙ (ap (λ n. of_four b.release b.level n a.sequence) (eqb-true a.branch b.branch last.0)
+    ∙ ap (of_four b.release b.level b.branch) (eqb-true a.sequence b.sequence last.1)))
 
-below_number : (a b : Sid) (last : ℕ) (same : Bool) → (same ≡ true → sid_number a ≡ sid_number b) → last ≤ sid_number a → sid_number b < last → same ≡ false
-below_number a b last true number low below = let is : sid_number a ≡ sid_number b = number refl in absurd (omega (arith, is, low, below))
+below_number : (a b : Sid) (last : ℕ) (same : Bool) → (same ≡ true → sid_number a ≡ sid_number b) → last ≤ sid_number a
+    → sid_number b < last → same ≡ false
+below_number a b last true number low below = let is : sid_number a ≡ sid_number b = number refl in
+    absurd (omega (arith, is, low, below))
 below_number a b last false number low below = refl
 
 none_lives : (removed same rest : Bool) → same ≡ false → rest ≡ false → ((not removed && same) || rest) ≡ false
@@ -72,7 +79,9 @@ none_lives true same rest other none = none
 none_lives false same rest other none = rw other none
 
 -- a SID below those of all records is none of theirs
-pub lives_below : (last : ℕ) (rs : List Record) (sid : Sid) → AreFrom last rs → sid_number sid < last → lives rs sid ≡ false
+pub lives_below : (last : ℕ) (rs : List Record) (sid : Sid) → AreFrom last rs → sid_number sid < last
+    → lives rs sid ≡ false
 lives_below last [] sid all below = refl
 lives_below last (r ∷ rs) sid all below =
-    none_lives r.removed (same_sid r.sid sid) (lives rs sid) (below_number r.sid sid last (same_sid r.sid sid) (same_number r.sid sid) all.0 below) (lives_below last rs sid all.1 below)
+    none_lives r.removed (same_sid r.sid sid) (lives rs sid) (below_number r.sid sid last (same_sid r.sid sid)
+    (same_number r.sid sid) all.0 below) (lives_below last rs sid all.1 below)

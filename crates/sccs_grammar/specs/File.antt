@@ -1,5 +1,6 @@
 -- What reading a whole s-file answers, by its bytes alone.
-use Rattle.std.specs.Prelude.{◌≡◌, ℕ, ◌+◌, ◌==◌, Bool, ◌&&◌, ◌||◌, List, [], ◌∷◌, length, drop, Result, Ok, Err, Option, Some, None, nat_lt, if◌then◌else◌}
+use Rattle.std.specs.Prelude.{◌≡◌, ℕ, ◌+◌, ◌==◌, Bool, ◌&&◌, ◌||◌, List, [], ◌∷◌, length, drop, Result, Ok, Err, Option}
+use Rattle.std.specs.Prelude.{Some, None, nat_lt, if◌then◌else◌}
 use Rattle.sccs_base.specs.Cut.{cut}
 use Rattle.sccs_sid.specs.Reading.{◌>>=◌, number}
 use Rattle.sccs_history.specs.Applied.{live_serials}
@@ -10,7 +11,8 @@ use Rattle.sccs_grammar.specs.Front.{ParsedFront, start, front_from}
 use Rattle.sccs_tokens.specs.Items.{items_from}
 use Rattle.sccs_tokens.specs.Sums.{plain_sum, signed_sum}
 use Rattle.sccs_grammar.specs.declared.faults.FileFault.{FileFault}
-use Rattle.sccs_grammar.specs.declared.faults.FileFault.TheVariants.{Missing, TooLong, NotSccs, BadSum, BadFormat, Encoded}
+use Rattle.sccs_grammar.specs.declared.faults.FileFault.TheVariants.{Missing, TooLong, NotSccs, BadSum, BadFormat}
+use Rattle.sccs_grammar.specs.declared.faults.FileFault.TheVariants.{Encoded}
 
 -- A file's stored sum, and its lines and its bytes behind the first line.
 pub record Opened : Type 0 where

@@ -38,7 +38,8 @@ file_fault (faults.Changed size sum size_now sum_now) = Refused (refusals.Change
 file_fault faults.Failed = DiskFault
 file_fault faults.Memory = Memory
 
--- The same of what the bytes of a file give. They alone give neither of the last two faults, so that the default is never taken:
+-- The same of what the bytes of a file give. They alone give neither of the last two faults, so that the default is
+-- never taken:
 -- each fault of theirs is a refusal.
 abbrev pub or_none : Option Refusal → Refusal
 or_none None = refusals.Missing

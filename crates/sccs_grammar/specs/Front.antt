@@ -1,5 +1,6 @@
 -- The lines of a header, in order: what may stand next, and the first line at which nothing goes on.
-use Rattle.std.specs.Prelude.{◌≡◌, ℕ, suc, Bool, true, false, not, ◌&&◌, ◌||◌, List, [], ◌∷◌, ◌++◌, Result, Ok, Err, Option, Some, None, nat_lt, if◌then◌else◌}
+use Rattle.std.specs.Prelude.{◌≡◌, ℕ, suc, Bool, true, false, not, ◌&&◌, ◌||◌, List, [], ◌∷◌, ◌++◌, Result, Ok, Err}
+use Rattle.std.specs.Prelude.{Option, Some, None, nat_lt, if◌then◌else◌}
 use Rattle.std.specs.List.{list_all}
 use Rattle.sccs_sid.specs.Reading.{◌>>=◌}
 use Rattle.sccs_history.specs.Numbers.{is_empty, has, share}
@@ -17,15 +18,24 @@ use Rattle.sccs_grammar.specs.declared.header_parsers.TableEntry.{TableEntry}
 use Rattle.sccs_grammar.specs.declared.header_parsers.ListsSeen.{ListsSeen}
 use Rattle.sccs_grammar.specs.declared.header_parsers.PartialHeader.{PartialHeader}
 use Rattle.sccs_grammar.specs.declared.header_parsers.HeaderState.{HeaderState}
-use Rattle.sccs_grammar.specs.declared.header_parsers.HeaderState.TheVariants.{AtEntry, AtDelta, InLists, InTexts, InUsers, InFlags, InDescription, AtBody}
+use Rattle.sccs_grammar.specs.declared.header_parsers.HeaderState.TheVariants.{AtEntry, AtDelta, InLists, InTexts}
+use Rattle.sccs_grammar.specs.declared.header_parsers.HeaderState.TheVariants.{InUsers, InFlags, InDescription, AtBody}
 use Rattle.sccs_grammar.specs.declared.header_parsers.HeaderParser.{HeaderParser}
 use Rattle.sccs_tokens.specs.declared.line_tokens.LineToken.{LineToken}
-use Rattle.sccs_tokens.specs.declared.line_tokens.LineToken.TheVariants.{Counts, Delta, Listed, Mr, Comment, EndEntry, Users, EndUsers, FlagIs, Description, EndDescription, Plain}
+use Rattle.sccs_tokens.specs.declared.line_tokens.LineToken.TheVariants.{Counts, Delta, Listed, Mr, Comment, EndEntry}
+use Rattle.sccs_tokens.specs.declared.line_tokens.LineToken.TheVariants.{Users, EndUsers, FlagIs, Description}
+use Rattle.sccs_tokens.specs.declared.line_tokens.LineToken.TheVariants.{EndDescription, Plain}
 use Rattle.sccs_tokens.specs.declared.line_tokens.ListKind.{ListKind}
 use Rattle.sccs_tokens.specs.declared.line_tokens.ListKind.TheVariants.{Included, Excluded, Ignored}
 
 abbrev pub header_of : HeaderParser → Header
-header_of r = record { records = r.parts.table.records; users = r.parts.users; flags = r.parts.flags; description = r.parts.description }
+header_of r = record {
+  records = r.parts.table.records;
+  users = r.parts.users;
+  flags = r.parts.flags;
+  description =
+      r.parts.description;
+}
 
 abbrev pub parser_at : HeaderState → PartialHeader → HeaderParser
 parser_at state parts = record { state = state; parts = parts }
@@ -74,7 +84,8 @@ may_follow r above =
 
 -- the delta line of the first entry whose predecessor is neither 0 nor in the table
 unfoldable pub dangling_predecessor : List Record → List Record → List ℕ → Option ℕ
-dangling_predecessor table (r ∷ records) (line ∷ lines) = if has (0 ∷ serials_of table) r.predecessor then dangling_predecessor table records lines else Some line
+dangling_predecessor table (r ∷ records) (line ∷ lines) = if has (0 ∷ serials_of table) r.predecessor
+    then dangling_predecessor table records lines else Some line
 dangling_predecessor table records lines = None
 
 -- smaller serials
@@ -138,7 +149,8 @@ seen_with seen Excluded = record seen { excluded = true }
 seen_with seen Ignored = record seen { ignored = true }
 
 abbrev pub with_list : ℕ → PartialHeader → TableEntry → ListsSeen → ListKind → List ℕ → Result HeaderParser ℕ
-with_list n parts e seen which ns = if_fits (list_fits e seen which ns) n (parser_at (InLists (put_list e which ns) (seen_with seen which)) parts)
+with_list n parts e seen which ns = if_fits (list_fits e seen which ns) n
+    (parser_at (InLists (put_list e which ns) (seen_with seen which)) parts)
 
 abbrev pub in_lists : ℕ → PartialHeader → TableEntry → ListsSeen → LineToken → Result HeaderParser ℕ
 in_lists n parts e seen (Listed which ns) = with_list n parts e seen which ns
@@ -151,7 +163,8 @@ ends_table n parts None = if_fits (not (is_empty parts.table.records)) n (parser
 
 abbrev pub at_entry : ℕ → PartialHeader → LineToken → Result HeaderParser ℕ
 at_entry n parts (Counts i d u) = Ok (parser_at (AtDelta i d u) parts)
-at_entry n parts Users = ends_table n parts (dangling_predecessor parts.table.records parts.table.records parts.table.lines)
+at_entry n parts Users = ends_table n parts (dangling_predecessor parts.table.records parts.table.records
+    parts.table.lines)
 at_entry n parts _ = Err n
 
 abbrev pub none_seen : ListsSeen
@@ -161,7 +174,8 @@ abbrev pub entry : ℕ → ℕ → ℕ → ℕ → Record → TableEntry
 entry n i d u row = record { line = n; row = record row { inserted = i; deleted = d; unchanged = u } }
 
 abbrev pub at_delta : ℕ → PartialHeader → ℕ → ℕ → ℕ → LineToken → Result HeaderParser ℕ
-at_delta n parts i d u (Delta row) = if_fits (may_follow row parts.table.records) n (parser_at (InLists (entry n i d u row) none_seen) parts)
+at_delta n parts i d u (Delta row) = if_fits (may_follow row parts.table.records) n
+    (parser_at (InLists (entry n i d u row) none_seen) parts)
 at_delta n parts i d u _ = Err n
 
 abbrev pub in_users : ℕ → PartialHeader → LineToken → Result HeaderParser ℕ
@@ -179,7 +193,8 @@ in_flags n parts Description = Ok (parser_at InDescription parts)
 in_flags n parts _ = Err n
 
 abbrev pub in_description : ℕ → PartialHeader → LineToken → Result HeaderParser ℕ
-in_description n parts (Plain t) = Ok (parser_at InDescription (record parts { description = parts.description ++ t ∷ [] }))
+in_description n parts (Plain t) =
+    Ok (parser_at InDescription (record parts { description = parts.description ++ t ∷ [] }))
 in_description n parts EndDescription = Ok (parser_at AtBody parts)
 in_description n parts _ = Err n
 
@@ -236,4 +251,5 @@ unfoldable pub front_from : ℕ → HeaderParser → List (List ℕ) → Result 
 front_from n r [] = Err n
 front_from n r (line ∷ lines) = do
   s ← line_after n r line
-  if is_whole s.state then Ok (record { header = header_of s; line = suc n; rest = lines }) else front_from (suc n) s lines
+  if is_whole s.state then Ok (record { header = header_of s; line = suc n; rest = lines })
+      else front_from (suc n) s lines

@@ -1,7 +1,10 @@
 //! What is read of a header with a line more.
 ghost use Rattle.std.specs.Prelude.{◌≡◌, Ok, Err, [], ◌∷◌, ◌++◌, IfOk, IfErr};
 ghost use Rattle.sccs_grammar.specs.Entries.{with_entry as with_entry_spec};
-ghost use Rattle.sccs_grammar.specs.Front.{Accepts, AcceptsAt, AcceptsIn, after, at_delta, at_entry, ends_table, in_description, in_flags, in_lists, in_texts, in_users, list_fits, dangling_predecessor, new_flag, put_list, parser_at, seen_with, with_comment, with_list, with_mr};
+ghost use Rattle.sccs_grammar.specs.Front.{Accepts, AcceptsAt, AcceptsIn, after, at_delta, at_entry, ends_table};
+ghost use Rattle.sccs_grammar.specs.Front.{in_description, in_flags, in_lists, in_texts, in_users, list_fits};
+ghost use Rattle.sccs_grammar.specs.Front.{dangling_predecessor, new_flag, put_list, parser_at, seen_with};
+ghost use Rattle.sccs_grammar.specs.Front.{with_comment, with_list, with_mr};
 
 use crate::header_parsers::{
     FrontFault, HeaderParser, HeaderState, ListsSeen, PartialHeader, TableEntry,
@@ -57,7 +60,8 @@ fn end_entry(
     parts: &mut PartialHeader,
     entry: TableEntry,
 ) -> Result<HeaderState, FrontFault>
-    ensures { AcceptsAt parts.new result (Ok (parser_at HeaderState.AtEntry (record parts.old { table = with_entry_spec parts.old.table entry }))) }
+    ensures { AcceptsAt parts.new result
+        (Ok (parser_at HeaderState.AtEntry (record parts.old { table = with_entry_spec parts.old.table entry }))) }
 {
     let table = replace(&mut parts.table, Table::new(alloc));
     parts.table = with_entry(alloc, table, entry)?;
@@ -154,7 +158,8 @@ fn in_lists(
 // the table ends: there is an entry, and each predecessor is there
 #[inline(never)]
 fn end_table(number: u64, parts: &PartialHeader) -> Result<HeaderState, FrontFault>
-    ensures { AcceptsAt parts.now result (ends_table number parts.now (dangling_predecessor parts.now.table.records parts.now.table.records parts.now.table.lines)) }
+    ensures { AcceptsAt parts.now result (ends_table number parts.now (dangling_predecessor parts.now.table.records
+        parts.now.table.records parts.now.table.lines)) }
 {
     if let Some(line) = parts.table.dangling_predecessor() {
         return Err(FrontFault::Format(line));

@@ -28,5 +28,6 @@ impl From<FileFault> for StepFault {
 
 /// Where the bytes of a file, or that there is none, don't give a whole file, that is a refusal.
 pub fn files_are_refused()
-    ensures { (bytes : Option (List ℕ)) (fault : FileFault) → answer file_of bytes ≡ Err fault → IsSome (refusal_of fault) }
+    ensures { (bytes : Option (List ℕ)) (fault : FileFault) → answer file_of bytes ≡ Err fault
+        → IsSome (refusal_of fault) }
 {}

@@ -2,7 +2,8 @@
 ghost use Rattle.std.specs.Prelude.{◌≡◌};
 ghost use Rattle.std.specs.List.{list_all};
 ghost use Rattle.sccs_sid.specs.Words.{words};
-ghost use Rattle.sccs_history.specs.FlagText.{are_releases, are_spaced, fits_letter, is_all, is_any_sid, is_number, is_release};
+ghost use Rattle.sccs_history.specs.FlagText.{are_releases, are_spaced, fits_letter, is_all, is_any_sid, is_number};
+ghost use Rattle.sccs_history.specs.FlagText.{is_release};
 
 use sccs_sid::Spec;
 use sccs_sid::reading::{cut_at, number};

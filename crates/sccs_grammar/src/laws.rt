@@ -1,15 +1,21 @@
-ghost use Rattle.std.specs.Prelude.{◌≡◌, ℕ, suc, ◌+◌, ◌<◌, Ok, true, false, List, [], ◌∷◌, ◌++◌, map, length, not, decimal};
+ghost use Rattle.std.specs.Prelude.{◌≡◌, ℕ, suc, ◌+◌, ◌<◌, Ok, true, false, List, [], ◌∷◌, ◌++◌, map, length, not};
+ghost use Rattle.std.specs.Prelude.{decimal};
 ghost use Rattle.std.specs.List.{AllByRecursion};
 ghost use Rattle.sccs_history.specs.Applied.{live_serials};
 ghost use Rattle.sccs_history.specs.Body.{GoesOn};
-ghost use Rattle.sccs_history.specs.History.{AreBare, AreLines, HasSpelling, IsFlag, IsHeader, IsSpelled, KeepsRules, has_own_letters};
+ghost use Rattle.sccs_history.specs.History.{AreBare, AreLines, HasSpelling, IsFlag, IsHeader, IsSpelled, KeepsRules};
+ghost use Rattle.sccs_history.specs.History.{has_own_letters};
 ghost use Rattle.sccs_history.specs.Numbers.{is_empty, share};
 ghost use Rattle.sccs_grammar.specs.Entries.{with_entry};
-ghost use Rattle.sccs_grammar.specs.Front.{ParsedFront, all_below, at_description, at_flags, at_lists, at_table, at_texts, at_users, front_from, start, with_comments, with_exclude, with_ignore, with_include, with_mrs};
+ghost use Rattle.sccs_grammar.specs.Front.{ParsedFront, all_below, at_description, at_flags, at_lists, at_table};
+ghost use Rattle.sccs_grammar.specs.Front.{at_texts, at_users, front_from, start, with_comments, with_exclude};
+ghost use Rattle.sccs_grammar.specs.Front.{with_ignore, with_include, with_mrs};
 ghost use Rattle.sccs_grammar.specs.File.{IsSFile};
 ghost use Rattle.sccs_tokens.specs.Items.{items_from};
 ghost use Rattle.sccs_tokens.specs.Tokens.{token};
-ghost use Rattle.sccs_tokens.specs.Written.{HasLines, IsItem, IsSerial, canonical, comment_line, counts_line, delta_line, delta_part, end_line, flag_line, item_line, list_lines, mr_line};
+ghost use Rattle.sccs_tokens.specs.Written.{HasLines, IsItem, IsSerial, canonical, comment_line, counts_line};
+ghost use Rattle.sccs_tokens.specs.Written.{delta_line, delta_part, end_line, flag_line, item_line, list_lines};
+ghost use Rattle.sccs_tokens.specs.Written.{mr_line};
 
 use crate::header_parsers::{HeaderParser, ListsSeen, TableEntry};
 use crate::tables::Table;
@@ -50,24 +56,29 @@ pub fn short_parts_again()
 
 /// The counts, the lists, the MRs and the comments of an entry that are written are read again.
 pub fn entry_parts_again()
-    ensures counts { (i d u : ℕ) → i < 100000 → d < 100000 → u < 100000 → token (counts_line i d u) ≡ Some (LineToken.Counts i d u) }
+    ensures counts { (i d u : ℕ) → i < 100000 → d < 100000 → u < 100000 → token (counts_line i d u) ≡ Some
+        (LineToken.Counts i d u) }
     ensures include { (n : ℕ) (entries : Table) (e : TableEntry) (seen : ListsSeen) (ns : List ℕ) (rest : List (List ℕ))
         → AllByRecursion IsSerial ns → e.row.include ≡ [] → seen.included ≡ false
         → all_below e.row.serial ns ≡ true → share ns e.row.exclude ≡ false
         → front_from n (at_lists entries e seen) (list_lines 105 ns ++ rest)
-        ≡ front_from (n + length (list_lines 105 ns)) (at_lists entries (with_include e ns) (record seen { included = not (is_empty ns) })) rest }
+        ≡ front_from (n + length (list_lines 105 ns)) (at_lists entries (with_include e ns)
+        (record seen { included = not (is_empty ns) })) rest }
     ensures exclude { (n : ℕ) (entries : Table) (e : TableEntry) (seen : ListsSeen) (ns : List ℕ) (rest : List (List ℕ))
         → AllByRecursion IsSerial ns → e.row.exclude ≡ [] → seen.excluded ≡ false
         → all_below e.row.serial ns ≡ true → share ns e.row.include ≡ false
         → front_from n (at_lists entries e seen) (list_lines 120 ns ++ rest)
-        ≡ front_from (n + length (list_lines 120 ns)) (at_lists entries (with_exclude e ns) (record seen { excluded = not (is_empty ns) })) rest }
+        ≡ front_from (n + length (list_lines 120 ns)) (at_lists entries (with_exclude e ns)
+        (record seen { excluded = not (is_empty ns) })) rest }
     ensures ignore { (n : ℕ) (entries : Table) (e : TableEntry) (seen : ListsSeen) (ns : List ℕ) (rest : List (List ℕ))
         → AllByRecursion IsSerial ns → e.row.ignore ≡ [] → seen.ignored ≡ false → all_below e.row.serial ns ≡ true
         → front_from n (at_lists entries e seen) (list_lines 103 ns ++ rest)
-        ≡ front_from (n + length (list_lines 103 ns)) (at_lists entries (with_ignore e ns) (record seen { ignored = not (is_empty ns) })) rest }
+        ≡ front_from (n + length (list_lines 103 ns)) (at_lists entries (with_ignore e ns)
+        (record seen { ignored = not (is_empty ns) })) rest }
     ensures texts { (n : ℕ) (entries : Table) (e : TableEntry) (seen : ListsSeen) (mrs comments rest : List (List ℕ))
         → front_from n (at_lists entries e seen) (map mr_line mrs ++ (map comment_line comments ++ (end_line ∷ rest)))
-        ≡ front_from (suc (n + length mrs + length comments)) (at_table (with_entry entries (with_comments (with_mrs e mrs) comments))) rest }
+        ≡ front_from (suc (n + length mrs + length comments))
+        (at_table (with_entry entries (with_comments (with_mrs e mrs) comments))) rest }
 {}
 
 /// A delta line that is written says its record.

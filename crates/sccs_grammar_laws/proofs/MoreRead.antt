@@ -16,7 +16,8 @@ more parts line r = record parts { table = with_entry parts.table (record { line
 
 pub no_texts : (r : Record) → r ≡ text_row r []
 no_texts r =
-    ap (λ (ms : List (List ℕ)). record r { mrs = ms }) (sym (append-nil r.mrs)) ∙ ap (λ (cs : List (List ℕ)). record r { mrs = r.mrs ++ []; comments = cs }) (sym (append-nil r.comments))
+    ap (λ (ms : List (List ℕ)). record r { mrs = ms }) (sym (append-nil r.mrs))
+    ∙ ap (λ (cs : List (List ℕ)). record r { mrs = r.mrs ++ []; comments = cs }) (sym (append-nil r.comments))
 
 pub regroup : (a b c : List LineToken) (x : LineToken) → (a ++ (b ++ (x ∷ []))) ++ c ≡ a ++ (b ++ (x ∷ c))
 regroup a b c x = append_assoc a (b ++ (x ∷ [])) c ∙ ap (λ (os : List LineToken). a ++ os) (append_assoc b (x ∷ []) c)

@@ -9,7 +9,9 @@ use Rattle.sccs_grammar.specs.Front.{ParsedFront}
 use Rattle.sccs_tokens.specs.Tokens.{token}
 use Rattle.sccs_tokens.specs.Written.{delta_part}
 use Rattle.sccs_tokens.specs.declared.line_tokens.LineToken.{LineToken}
-use Rattle.sccs_tokens.specs.declared.line_tokens.LineToken.TheVariants.{Counts, Delta, Listed, Mr, Comment, EndEntry, Users, EndUsers, FlagIs, Description, EndDescription, Plain}
+use Rattle.sccs_tokens.specs.declared.line_tokens.LineToken.TheVariants.{Counts, Delta, Listed, Mr, Comment, EndEntry}
+use Rattle.sccs_tokens.specs.declared.line_tokens.LineToken.TheVariants.{Users, EndUsers, FlagIs, Description}
+use Rattle.sccs_tokens.specs.declared.line_tokens.LineToken.TheVariants.{EndDescription, Plain}
 use Rattle.sccs_tokens.specs.declared.line_tokens.ListKind.{ListKind}
 use Rattle.sccs_tokens.specs.declared.line_tokens.ListKind.TheVariants.{Included, Excluded, Ignored}
 

@@ -10,7 +10,8 @@ use Rattle.sccs_tokens.specs.Written.{IsSerial}
 use Rattle.sccs_grammar.specs.Front.{ParsedFront, front_from, dangling_predecessor}
 use Rattle.sccs_grammar.specs.declared.header_parsers.HeaderParser.{HeaderParser}
 use Rattle.sccs_grammar.specs.Entries.{Entries, with_entry}
-use Rattle.sccs_grammar.specs.declared.header_parsers.HeaderState.TheVariants.{AtEntry, AtDelta, InLists, InTexts, InUsers, InFlags, InDescription, AtBody}
+use Rattle.sccs_grammar.specs.declared.header_parsers.HeaderState.TheVariants.{AtEntry, AtDelta, InLists, InTexts}
+use Rattle.sccs_grammar.specs.declared.header_parsers.HeaderState.TheVariants.{InUsers, InFlags, InDescription, AtBody}
 
 -- the items before a place, the last nearest, each of which may stand there
 abbrev pub Reached : List ℕ → List Item → Type 0

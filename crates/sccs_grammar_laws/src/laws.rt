@@ -7,7 +7,8 @@ ghost use Rattle.sccs_grammar.specs.Front.{ParsedFront, front_from, start};
 ghost use Rattle.sccs_tokens.specs.Items.{items_from};
 ghost use Rattle.sccs_grammar.specs.declared.header_parsers.HeaderParser.{HeaderParser};
 ghost use Rattle.sccs_grammar_laws.specs.HeaderLines.{BeginSFile, BeginWithHeader};
-ghost use Rattle.sccs_grammar_laws.specs.ViablePrefixes.{AreSerials, BodyCompletion, IsViable, HeaderCompletion, Reached, ends};
+ghost use Rattle.sccs_grammar_laws.specs.ViablePrefixes.{AreSerials, BodyCompletion, IsViable, HeaderCompletion};
+ghost use Rattle.sccs_grammar_laws.specs.ViablePrefixes.{Reached, ends};
 
 /// A header is read where its lines are entries of the table, users, flags and description, each part
 /// as `header_says` has it, and it keeps the rules; and each header that is read is so.

@@ -1,5 +1,6 @@
 -- Changes of a view after which recovery makes of it what it made before.
-use Rattle.std.proofs.Common.{◌≡◌, ◌⊎◌, ℕ, Bool, true, false, cond, List, Option, None, Some, is_some, inl, inr, refl, sym, ap, subst, ◌∙◌, ⊎_elim}
+use Rattle.std.proofs.Common.{◌≡◌, ◌⊎◌, ℕ, Bool, true, false, cond, List, Option, None, Some, is_some, inl, inr, refl}
+use Rattle.std.proofs.Common.{sym, ap, subst, ◌∙◌, ⊎_elim}
 use Rattle.std.specs.Prelude.{IsSome}
 use Rattle.std.specs.Str.{bytes_eq}
 use Rattle.sccs_base.specs.Name.{IsSFileName, p_file, q_file, x_file, z_file}
@@ -9,15 +10,19 @@ use Rattle.sccs_disk.proofs.Puts.{name_cases, put_other, put_same}
 use Rattle.sccs_intents.specs.Intents.{intent_file}
 use Rattle.sccs_intents.specs.declared.intents.Fate.{Fate}
 use Rattle.sccs_intents.specs.declared.intents.Fate.TheVariants.{Replaced, Removed}
-use Rattle.sccs_crash_points.specs.Recovery.{IsSettledPair, IsSound, RecoversAs, fate_at, fated, is_kept, newer, pair_of, without_name}
-use Rattle.sccs_crash_points.proofs.FileNames.{from_sfile, kept_intent, kept_p, kept_q, kept_s, kept_x, kept_z, sfile_and_intent, siblings_differ, to_sfile}
-use Rattle.sccs_crash_points.proofs.Recovering.{LooksAlike, SameLooks, fate_same, newer_same, pair_same, recovered_alike, recovered_at, recovered_under, recovers_from, sound_at}
+use Rattle.sccs_crash_points.specs.Recovery.{IsSettledPair, IsSound, RecoversAs, fate_at, fated, is_kept, newer}
+use Rattle.sccs_crash_points.specs.Recovery.{pair_of, without_name}
+use Rattle.sccs_crash_points.proofs.FileNames.{from_sfile, kept_intent, kept_p, kept_q, kept_s, kept_x, kept_z}
+use Rattle.sccs_crash_points.proofs.FileNames.{sfile_and_intent, siblings_differ, to_sfile}
+use Rattle.sccs_crash_points.proofs.Recovering.{LooksAlike, SameLooks, fate_same, newer_same, pair_same}
+use Rattle.sccs_crash_points.proofs.Recovering.{recovered_alike, recovered_at, recovered_under, recovers_from, sound_at}
 use Rattle.sccs_crash_points.proofs.Untouched.{none_named, sound_kept}
 use Rattle.sccs_group.specs.Finishing.{IsHeld, IsSettled}
 
 -- ---- what one change leaves
 
-pub renamed_other : (a b : List ℕ) (u : View) (l : List ℕ) → bytes_eq a l ≡ false → bytes_eq b l ≡ false → renamed a b u l ≡ u l
+pub renamed_other : (a b : List ℕ) (u : View) (l : List ℕ) → bytes_eq a l ≡ false → bytes_eq b l ≡ false
+    → renamed a b u l ≡ u l
 renamed_other a b u l from to = put_other (put u a None) b l (u a) to ∙ put_other u a l None from
 
 pub renamed_from : (a b : List ℕ) (u : View) → bytes_eq b a ≡ false → renamed a b u a ≡ None
@@ -49,7 +54,8 @@ same_pair k u w same = pair_same _ _ _ _ same.s same.p
 
 -- ---- harmless changes
 
--- Recovery makes the same of every name; the intent stays, and the z-file of each name of it; no pair changes but of a name of it.
+-- Recovery makes the same of every name; the intent stays, and the z-file of each name of it; no pair changes but of a
+-- name of it.
 pub record IsHarmless (f : View → View) (v : View) : Type 0 where
   pub recovers : RecoversAs v (f v)
   pub intent : f v intent_file ≡ v intent_file
@@ -66,10 +72,13 @@ pub record OneName (n : List ℕ) (f : View → View) (u : View) : Type 0 where
 
 pub one_harmless : (n : List ℕ) (f : View → View) (u : View) → OneName n f u → IsHarmless f u
 one_harmless n f u one = record {
-  recovers = recovers_from u (f u) (λ k sfile. ⊎_elim (λ e. subst (λ l. recovered_at (f u) l ≡ recovered_at u l) e one.own)
-      (λ apart. recovered_alike k u (f u) (same_looks k u (f u) one.intent (one.others k sfile apart))) (name_cases n k));
+  recovers = recovers_from u (f u) (λ k sfile. ⊎_elim (λ e. subst (λ l. recovered_at (f u) l ≡ recovered_at u l) e
+      one.own)
+      (λ apart. recovered_alike k u (f u) (same_looks k u (f u) one.intent (one.others k sfile apart)))
+      (name_cases n k));
   intent = one.intent;
-  z = λ k sfile named. ⊎_elim (λ e. subst (λ l. IsSome (fate_at u l) → f u (z_file l) ≡ u (z_file l)) e one.own_z named) (λ apart. (one.others k sfile apart).z) (name_cases n k);
+  z = λ k sfile named. ⊎_elim (λ e. subst (λ l. IsSome (fate_at u l) → f u (z_file l) ≡ u (z_file l)) e one.own_z named)
+      (λ apart. (one.others k sfile apart).z) (name_cases n k);
   pairs = λ k sfile. ⊎_elim (λ e. subst (λ l. (pair_of (f u) l ≡ pair_of u l) ⊎ IsSome (fate_at u l)) e one.own_pair)
       (λ apart. inl (same_pair k u (f u) (one.others k sfile apart))) (name_cases n k);
 }
@@ -84,16 +93,21 @@ newer_there None s there = absurd (cc)
 newer_there (Some c) s there = refl
 
 pub fated_same : (fate : Fate) (q q2 p p2 : Option Content) → q2 ≡ q → p2 ≡ p → fated fate q2 p2 ≡ fated fate q p
-fated_same fate q q2 p p2 e f = ap (λ (o : Option Content). fated fate o p2) e ∙ ap (λ (o : Option Content). fated fate q o) f
+fated_same fate q q2 p p2 e f = ap (λ (o : Option Content). fated fate o p2) e
+    ∙ ap (λ (o : Option Content). fated fate q o) f
 
-pub x_harmless : (n : List ℕ) (fate : Fate) (u : View) → IsSFileName n → fate_at u n ≡ Some fate → IsSome (u (x_file n)) → IsHarmless (renamed (x_file n) n) u
+pub x_harmless : (n : List ℕ) (fate : Fate) (u : View) → IsSFileName n → fate_at u n ≡ Some fate → IsSome (u (x_file n))
+    → IsHarmless (renamed (x_file n) n) u
 x_harmless n fate u sfile named there = one_harmless n (renamed (x_file n) n) u (record {
   intent = intent;
   own =
       recovered_under n w (Some fate) (fate_same n u w intent ∙ named)
-      ∙ (pair_same (newer (w (x_file n)) (w n)) (newer (u (x_file n)) (u n)) (fated fate (w (q_file n)) (w (p_file n))) (fated fate (u (q_file n)) (u (p_file n)))
-      (newer_same (w (x_file n)) None (w n) (u (x_file n)) (renamed_from (x_file n) n u (to_sfile 120 n n sfile refl)) (renamed_to (x_file n) n u) ∙ sym (newer_there (u (x_file n)) (u n) there))
-      (fated_same fate (u (q_file n)) (w (q_file n)) (u (p_file n)) (w (p_file n)) (other (q_file n) refl (to_sfile 113 n n sfile refl)) (other (p_file n) refl (to_sfile 112 n n sfile refl)))
+      ∙ (pair_same (newer (w (x_file n)) (w n)) (newer (u (x_file n)) (u n)) (fated fate (w (q_file n)) (w (p_file n)))
+      (fated fate (u (q_file n)) (u (p_file n)))
+      (newer_same (w (x_file n)) None (w n) (u (x_file n)) (renamed_from (x_file n) n u (to_sfile 120 n n sfile refl))
+      (renamed_to (x_file n) n u) ∙ sym (newer_there (u (x_file n)) (u n) there))
+      (fated_same fate (u (q_file n)) (w (q_file n)) (u (p_file n)) (w (p_file n))
+      (other (q_file n) refl (to_sfile 113 n n sfile refl)) (other (p_file n) refl (to_sfile 112 n n sfile refl)))
       ∙ sym (recovered_under n u (Some fate) named));
   own_z = λ some. other (z_file n) refl (to_sfile 122 n n sfile refl);
   own_pair = inr (some_fate n u fate named);
@@ -117,14 +131,18 @@ x_harmless n fate u sfile named there = one_harmless n (renamed (x_file n) n) u 
 
 -- ---- q over the p-file
 
-pub q_harmless : (n : List ℕ) (u : View) → IsSFileName n → fate_at u n ≡ Some Replaced → IsSome (u (q_file n)) → IsHarmless (renamed (q_file n) (p_file n)) u
+pub q_harmless : (n : List ℕ) (u : View) → IsSFileName n → fate_at u n ≡ Some Replaced → IsSome (u (q_file n))
+    → IsHarmless (renamed (q_file n) (p_file n)) u
 q_harmless n u sfile named there = one_harmless n (renamed (q_file n) (p_file n)) u (record {
   intent = other intent_file refl refl;
   own =
       recovered_under n w (Some Replaced) (fate_same n u w (other intent_file refl refl) ∙ named)
-      ∙ (pair_same (newer (w (x_file n)) (w n)) (newer (u (x_file n)) (u n)) (newer (w (q_file n)) (w (p_file n))) (newer (u (q_file n)) (u (p_file n)))
-      (newer_same (w (x_file n)) (u (x_file n)) (w n) (u n) (other (x_file n) refl refl) (other n (from_sfile 113 n n sfile refl) (from_sfile 112 n n sfile refl)))
-      (newer_same (w (q_file n)) None (w (p_file n)) (u (q_file n)) (renamed_from (q_file n) (p_file n) u refl) (renamed_to (q_file n) (p_file n) u) ∙ sym (newer_there (u (q_file n)) (u (p_file n)) there))
+      ∙ (pair_same (newer (w (x_file n)) (w n)) (newer (u (x_file n)) (u n)) (newer (w (q_file n)) (w (p_file n)))
+      (newer (u (q_file n)) (u (p_file n)))
+      (newer_same (w (x_file n)) (u (x_file n)) (w n) (u n) (other (x_file n) refl refl)
+      (other n (from_sfile 113 n n sfile refl) (from_sfile 112 n n sfile refl)))
+      (newer_same (w (q_file n)) None (w (p_file n)) (u (q_file n)) (renamed_from (q_file n) (p_file n) u refl)
+      (renamed_to (q_file n) (p_file n) u) ∙ sym (newer_there (u (q_file n)) (u (p_file n)) there))
       ∙ sym (recovered_under n u (Some Replaced) named));
   own_z = λ some. other (z_file n) refl refl;
   own_pair = inr (some_fate n u Replaced named);
@@ -140,18 +158,21 @@ q_harmless n u sfile named there = one_harmless n (renamed (q_file n) (p_file n)
     w : View
     w = renamed (q_file n) (p_file n) u
 
-    other : (l : List ℕ) → bytes_eq (q_file n) l ≡ false → bytes_eq (p_file n) l ≡ false → renamed (q_file n) (p_file n) u l ≡ u l
+    other : (l : List ℕ) → bytes_eq (q_file n) l ≡ false → bytes_eq (p_file n) l ≡ false
+        → renamed (q_file n) (p_file n) u l ≡ u l
     other l from to = renamed_other (q_file n) (p_file n) u l from to
 
 -- ---- the p-file goes
 
-pub p_harmless : (n : List ℕ) (u : View) → IsSFileName n → fate_at u n ≡ Some Removed → IsHarmless (without_name (p_file n)) u
+pub p_harmless : (n : List ℕ) (u : View) → IsSFileName n → fate_at u n ≡ Some Removed
+    → IsHarmless (without_name (p_file n)) u
 p_harmless n u sfile named = one_harmless n (without_name (p_file n)) u (record {
   intent = other intent_file refl;
   own =
       recovered_under n w (Some Removed) (fate_same n u w (other intent_file refl) ∙ named)
       ∙ (pair_same (newer (w (x_file n)) (w n)) (newer (u (x_file n)) (u n)) None None
-      (newer_same (w (x_file n)) (u (x_file n)) (w n) (u n) (other (x_file n) refl) (other n (from_sfile 112 n n sfile refl))) refl
+      (newer_same (w (x_file n)) (u (x_file n)) (w n) (u n) (other (x_file n) refl)
+      (other n (from_sfile 112 n n sfile refl))) refl
       ∙ sym (recovered_under n u (Some Removed) named));
   own_z = λ some. other (z_file n) refl;
   own_pair = inr (some_fate n u Removed named);
@@ -183,7 +204,8 @@ kept_same g k u plain sfile = record {
 
 pub other_harmless : (g : List ℕ) (u : View) → is_kept g ≡ false → IsHarmless (without_name g) u
 other_harmless g u plain = record {
-  recovers = recovers_from u (without_name g u) (λ k sfile. recovered_alike k u (without_name g u) (same_looks k u (without_name g u) intent (kept_same g k u plain sfile)));
+  recovers = recovers_from u (without_name g u) (λ k sfile. recovered_alike k u (without_name g u)
+      (same_looks k u (without_name g u) intent (kept_same g k u plain sfile)));
   intent = intent;
   z = λ k sfile named. (kept_same g k u plain sfile).z;
   pairs = λ k sfile. inl (same_pair k u (without_name g u) (kept_same g k u plain sfile));
@@ -197,7 +219,8 @@ other_harmless g u plain = record {
 pub z_harmless : (n : List ℕ) (u : View) → IsSFileName n → IsSound n u → IsHarmless (without_name (z_file n)) u
 z_harmless n u sfile sound = one_harmless n (without_name (z_file n)) u (record {
   intent = other intent_file refl;
-  own = sound_at n (without_name (z_file n) u) (sound_kept n u (without_name (z_file n) u) sound (other intent_file refl) pair) ∙ (pair ∙ sym (sound_at n u sound));
+  own = sound_at n (without_name (z_file n) u) (sound_kept n u (without_name (z_file n) u) sound
+      (other intent_file refl) pair) ∙ (pair ∙ sym (sound_at n u sound));
   own_z = λ some. absurd (none_named (fate_at u n) sound.unnamed some);
   own_pair = inl pair;
   others = λ k sf apart. record {
@@ -219,12 +242,14 @@ z_harmless n u sfile sound = one_harmless n (without_name (z_file n)) u (record 
 
 pub harmless_held : (f : View → View) (v : View) → IsHarmless f v → IsHeld v → IsHeld (f v)
 harmless_held f v harmless held = λ n sfile named.
-    let some : IsSome (fate_at v n) = subst (λ (o : Option Fate). IsSome o) (fate_same n v (f v) harmless.intent) named in
+    let some : IsSome (fate_at v n) = subst (λ (o : Option Fate). IsSome o) (fate_same n v (f v) harmless.intent)
+    named in
     subst (λ (o : Option Content). IsSome o) (sym (harmless.z n sfile some)) (held n sfile some)
 
 pub harmless_settled : (f : View → View) (v : View) → IsHarmless f v → IsSettled v → IsSettled (f v)
 harmless_settled f v harmless settled = λ n sfile named.
-    subst IsSettledPair (sym (harmless.recovers n sfile)) (settled n sfile (subst (λ (o : Option Fate). IsSome o) (fate_same n v (f v) harmless.intent) named))
+    subst IsSettledPair (sym (harmless.recovers n sfile)) (settled n sfile (subst (λ (o : Option Fate). IsSome o)
+    (fate_same n v (f v) harmless.intent) named))
 
 -- ---- views that look alike still do
 
@@ -237,25 +262,30 @@ same_less v w same = λ n. inl (fate_same n v w same)
 
 less_named : (n : List ℕ) (v w : View) → NamesLess v w → IsSome (fate_at w n) → IsSome (fate_at v n)
 less_named n v w less named =
-    ⊎_elim (λ e. subst (λ (o : Option Fate). IsSome o) e named) (λ none. absurd (none_named (fate_at w n) none named)) (less n)
+    ⊎_elim (λ e. subst (λ (o : Option Fate). IsSome o) e named) (λ none. absurd (none_named (fate_at w n) none named))
+    (less n)
 
 less_replaced : (n : List ℕ) (v w : View) → NamesLess v w → fate_at w n ≡ Some Replaced → fate_at v n ≡ Some Replaced
-less_replaced n v w less named = ⊎_elim (λ e. sym e ∙ named) (λ none. absurd (none_named (fate_at w n) none (ap is_some named))) (less n)
+less_replaced n v w less named = ⊎_elim (λ e. sym e ∙ named)
+    (λ none. absurd (none_named (fate_at w n) none (ap is_some named))) (less n)
 
 -- what stands under a name behind a renaming, by two tests
-there_by : (a b : Bool) (x x2 y y2 : Option Content) → x2 ≡ x → is_some y2 ≡ is_some y → is_some (cond b x2 (cond a None y2)) ≡ is_some (cond b x (cond a None y))
+there_by : (a b : Bool) (x x2 y y2 : Option Content) → x2 ≡ x → is_some y2 ≡ is_some y
+    → is_some (cond b x2 (cond a None y2)) ≡ is_some (cond b x (cond a None y))
 there_by a true x x2 y y2 e f = ap is_some e
 there_by true false x x2 y y2 e f = refl
 there_by false false x x2 y y2 e f = f
 
-pub renamed_looks : (a b : List ℕ) (v u : View) → NamesLess v (renamed a b v) → u a ≡ v a → SameLooks v u → SameLooks (renamed a b v) (renamed a b u)
+pub renamed_looks : (a b : List ℕ) (v u : View) → NamesLess v (renamed a b v) → u a ≡ v a → SameLooks v u
+    → SameLooks (renamed a b v) (renamed a b u)
 renamed_looks a b v u less from same = record {
   intent = at intent_file same.intent;
   looks = λ n sfile. record {
     fate = fate_same n (renamed a b v) (renamed a b u) (at intent_file same.intent);
     s = at n (same.looks n sfile).s;
     p = at (p_file n) (same.looks n sfile).p;
-    z = there_by (bytes_eq a (z_file n)) (bytes_eq b (z_file n)) (v a) (u a) (v (z_file n)) (u (z_file n)) from (same.looks n sfile).z;
+    z = there_by (bytes_eq a (z_file n)) (bytes_eq b (z_file n)) (v a) (u a) (v (z_file n)) (u (z_file n)) from
+        (same.looks n sfile).z;
     x = λ named. at (x_file n) ((same.looks n sfile).x (less_named n v (renamed a b v) less named));
     q = λ named. at (q_file n) ((same.looks n sfile).q (less_replaced n v (renamed a b v) less named));
   };
@@ -266,7 +296,8 @@ renamed_looks a b v u less from same = record {
         ap (λ (o : Option Content). cond (bytes_eq b l) o (cond (bytes_eq a l) None (u l))) from
         ∙ ap (λ (o : Option Content). cond (bytes_eq b l) (v a) (cond (bytes_eq a l) None o)) e
 
-pub without_looks : (a : List ℕ) (v u : View) → NamesLess v (without_name a v) → SameLooks v u → SameLooks (without_name a v) (without_name a u)
+pub without_looks : (a : List ℕ) (v u : View) → NamesLess v (without_name a v) → SameLooks v u
+    → SameLooks (without_name a v) (without_name a u)
 without_looks a v u less same = record {
   intent = at intent_file same.intent;
   looks = λ n sfile. record {

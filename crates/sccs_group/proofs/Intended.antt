@@ -35,8 +35,11 @@ reads_intended None ms reads = absurd reads
 reads_intended (Some c) ms reads = reads
 
 -- what is so of the members that were read
-pub of_intended : (o : Option View) (ms : List Member) (P : List Member → Type 0) → IfSome o (λ (v : View). ReadsMembers (v intent_file) (Ok (Some ms))) → P ms → IfSome o (λ (v : View). P (intended v))
-of_intended o ms P reads holds = told_as o (λ (v : View). ReadsMembers (v intent_file) (Ok (Some ms))) (λ (v : View). P (intended v)) (λ v is. subst P (reads_intended (v intent_file) ms is) holds) reads
+pub of_intended : (o : Option View) (ms : List Member) (P : List Member → Type 0)
+    → IfSome o (λ (v : View). ReadsMembers (v intent_file) (Ok (Some ms))) → P ms
+    → IfSome o (λ (v : View). P (intended v))
+of_intended o ms P reads holds = told_as o (λ (v : View). ReadsMembers (v intent_file) (Ok (Some ms)))
+    (λ (v : View). P (intended v)) (λ v is. subst P (reads_intended (v intent_file) ms is) holds) reads
 
 -- they are members, and their g-files stay
 entries_others : (bytes : List ℕ) (r : Result (List IntentEntry) ℕ) → intent_of bytes ≡ r → AreOthers (well_formed r)
@@ -48,43 +51,67 @@ intent_others None = tt
 intent_others (Some c) = entries_others c.bytes (intent_of c.bytes) refl
 
 pub intended_members : (v : View) → AreMembers (intended v) × AllByRecursion IsPlainG (intended v)
-intended_members v = (subst AreOthers (sym (bare_entries (entries_in (v intent_file)))) (intent_others (v intent_file)), bare_plain (entries_in (v intent_file)))
+intended_members v = (
+  subst AreOthers (sym (bare_entries (entries_in (v intent_file)))) (intent_others (v intent_file)),
+  bare_plain (entries_in (v intent_file)),
+)
 
 -- ---- nothing is changed
 
 pub others_still : (a b : Told) → b ≡ a → IfSome (seen a) (λ (v : View). KeepsOthers (is_own_of_group (intended v)) a b)
-others_still a b same = told_all (seen a) (λ (v : View). KeepsOthers (is_own_of_group (intended v)) a b) (λ v. others_same (is_own_of_group (intended v)) a b same)
+others_still a b same = told_all (seen a) (λ (v : View). KeepsOthers (is_own_of_group (intended v)) a b)
+    (λ v. others_same (is_own_of_group (intended v)) a b same)
 
-pub halfway_still : (a b : Told) → seen b ≡ seen a → IfSome (seen a) (λ (v : View). IsHalfway (intended v) (seen a) (seen b))
+pub halfway_still : (a b : Told) → seen b ≡ seen a → IfSome (seen a) (λ (v : View). IsHalfway (intended v) (seen a)
+    (seen b))
 halfway_still a b same =
-    told_all (seen a) (λ (v : View). IsHalfway (intended v) (seen a) (seen b)) (λ v. none_halfway (intended v) (seen a) (seen b) (still_moves (is_left_of_group (intended v)) (seen a) (seen b) same))
+    told_all (seen a) (λ (v : View). IsHalfway (intended v) (seen a) (seen b)) (λ v. none_halfway (intended v) (seen a)
+    (seen b) (still_moves (is_left_of_group (intended v)) (seen a) (seen b) same))
 
-pub others_synced : {T : Type 0} (a b : Told) (f f2 : ℕ) (r : Result T Failed) → Changes syncing_names a b f f2 r → IfSome (seen a) (λ (v : View). KeepsOthers (is_own_of_group (intended v)) a b)
-others_synced a b f f2 r call = told_all (seen a) (λ (v : View). KeepsOthers (is_own_of_group (intended v)) a b) (λ v. sync_others (is_own_of_group (intended v)) a b f f2 r call)
+pub others_synced : {T : Type 0} (a b : Told) (f f2 : ℕ) (r : Result T Failed) → Changes syncing_names a b f f2 r
+    → IfSome (seen a) (λ (v : View). KeepsOthers (is_own_of_group (intended v)) a b)
+others_synced a b f f2 r call = told_all (seen a) (λ (v : View). KeepsOthers (is_own_of_group (intended v)) a b)
+    (λ v. sync_others (is_own_of_group (intended v)) a b f f2 r call)
 
-pub halfway_synced : {T : Type 0} (a b : Told) (f f2 : ℕ) (r : Result T Failed) → Changes syncing_names a b f f2 r → IfSome (seen a) (λ (v : View). IsHalfway (intended v) (seen a) (seen b))
+pub halfway_synced : {T : Type 0} (a b : Told) (f f2 : ℕ) (r : Result T Failed) → Changes syncing_names a b f f2 r
+    → IfSome (seen a) (λ (v : View). IsHalfway (intended v) (seen a) (seen b))
 halfway_synced a b f f2 r call = halfway_still a b (synced_seen a b f f2 r call)
 
 -- ---- the plan is gone
 
-pub plan_gone_others : (k : List ℕ) (a b : Told) → k ≡ plan_file → MayCall (Remove k) k a b → IfSome (seen a) (λ (v : View). KeepsOthers (is_own_of_group (intended v)) a b)
+pub plan_gone_others : (k : List ℕ) (a b : Told) → k ≡ plan_file → MayCall (Remove k) k a b
+    → IfSome (seen a) (λ (v : View). KeepsOthers (is_own_of_group (intended v)) a b)
 plan_gone_others k a b is call =
-    told_all (seen a) (λ (v : View). KeepsOthers (is_own_of_group (intended v)) a b) (λ v. remove_others plan_file (is_own_of_group (intended v)) a b (no_plan (intended v)) (plan_call k a b is call))
+    told_all (seen a) (λ (v : View). KeepsOthers (is_own_of_group (intended v)) a b) (λ v. remove_others plan_file
+    (is_own_of_group (intended v)) a b (no_plan (intended v)) (plan_call k a b is call))
 
-pub plan_gone_halfway : (k : List ℕ) (a b : Told) → k ≡ plan_file → MayBecome (without_name k) (seen a) (seen b) → IfSome (seen a) (λ (v : View). IsHalfway (intended v) (seen a) (seen b))
+pub plan_gone_halfway : (k : List ℕ) (a b : Told) → k ≡ plan_file → MayBecome (without_name k) (seen a) (seen b)
+    → IfSome (seen a) (λ (v : View). IsHalfway (intended v) (seen a) (seen b))
 plan_gone_halfway k a b is may =
     told_all (seen a) (λ (v : View). IsHalfway (intended v) (seen a) (seen b))
-    (λ v. none_halfway (intended v) (seen a) (seen b) (may_moves (is_left_of_group (intended v)) plan_file (seen a) (seen b) (left_plan (intended v)) (subst (λ (l : List ℕ). MayBecome (without_name l) (seen a) (seen b)) is may)))
+    (λ v. none_halfway (intended v) (seen a) (seen b) (may_moves (is_left_of_group (intended v)) plan_file (seen a)
+    (seen b) (left_plan (intended v)) (subst (λ (l : List ℕ). MayBecome (without_name l) (seen a) (seen b)) is
+    may)))
 
-pub finish_others : (k : List ℕ) (a b c : Told) → k ≡ plan_file → Becomes (without_name plan_file) (seen a) (seen b) → MayCall (Remove k) k a b → IfSome (seen b) (λ (v : View). KeepsOthers (is_own_of_group (intended v)) b c)
+pub finish_others : (k : List ℕ) (a b c : Told) → k ≡ plan_file → Becomes (without_name plan_file) (seen a) (seen b)
+    → MayCall (Remove k) k a b → IfSome (seen b) (λ (v : View). KeepsOthers (is_own_of_group (intended v)) b c)
     → IfSome (seen a) (λ (v : View). KeepsOthers (is_own_of_group (intended v)) a c)
 finish_others k a b c is becomes call next =
-    told_as (seen a) (λ (v : View). KeepsOthers (is_own_of_group (intended v)) b c) (λ (v : View). KeepsOthers (is_own_of_group (intended v)) a c)
-    (λ v later. others_then (is_own_of_group (intended v)) a b c (remove_others plan_file (is_own_of_group (intended v)) a b (no_plan (intended v)) (plan_call k a b is call)) later)
-    (intent_told (λ (x : Option Content). KeepsOthers (is_own_of_group (bare (entries_in x))) b c) (seen a) (seen b) becomes next)
+    told_as (seen a) (λ (v : View). KeepsOthers (is_own_of_group (intended v)) b c) (λ (v : View). KeepsOthers
+    (is_own_of_group (intended v)) a c)
+    (λ v later. others_then (is_own_of_group (intended v)) a b c (remove_others plan_file (is_own_of_group (intended v))
+    a b (no_plan (intended v)) (plan_call k a b is call)) later)
+    (intent_told (λ (x : Option Content). KeepsOthers (is_own_of_group (bare (entries_in x))) b c) (seen a)
+    (seen b) becomes next)
 
-pub finish_halfway : (a b c : Told) → Becomes (without_name plan_file) (seen a) (seen b) → IfSome (seen b) (λ (v : View). IsHalfway (intended v) (seen b) (seen c)) → IfSome (seen a) (λ (v : View). IsHalfway (intended v) (seen a) (seen c))
+pub finish_halfway : (a b c : Told) → Becomes (without_name plan_file) (seen a) (seen b)
+    → IfSome (seen b) (λ (v : View). IsHalfway (intended v) (seen b) (seen c))
+    → IfSome (seen a) (λ (v : View). IsHalfway (intended v) (seen a) (seen c))
 finish_halfway a b c becomes next =
-    told_as (seen a) (λ (v : View). IsHalfway (intended v) (seen b) (seen c)) (λ (v : View). IsHalfway (intended v) (seen a) (seen c))
-    (λ v later. halfway_then (intended v) (seen a) (seen b) (seen c) (may_moves (is_left_of_group (intended v)) plan_file (seen a) (seen b) (left_plan (intended v)) (inr becomes)) later)
-    (intent_told (λ (x : Option Content). IsHalfway (bare (entries_in x)) (seen b) (seen c)) (seen a) (seen b) becomes next)
+    told_as (seen a) (λ (v : View). IsHalfway (intended v) (seen b) (seen c)) (λ (v : View). IsHalfway (intended v)
+    (seen a) (seen c))
+    (λ v later. halfway_then (intended v) (seen a) (seen b) (seen c)
+    (may_moves (is_left_of_group (intended v)) plan_file (seen a) (seen b) (left_plan (intended v)) (inr becomes))
+    later)
+    (intent_told (λ (x : Option Content). IsHalfway (bare (entries_in x)) (seen b) (seen c)) (seen a)
+    (seen b) becomes next)

@@ -25,14 +25,16 @@ after_changes (d ∷ changes) v = after_changes changes (moved v d.member.entry.
 abbrev pub new_g_of : Member → View → Option Content
 new_g_of mem v = if mem.removes_g then None else v (drop 2 mem.entry.name)
 
--- The new s-file and p-file are those that are prepared in a view, and recovery leaves them; the g-file is none at which it looks.
+-- The new s-file and p-file are those that are prepared in a view, and recovery leaves them; the g-file is none at
+-- which it looks.
 pub record IsPrepared (v : View) (d : Change) : Type 0 where
   pub sfile : IsSFileName d.member.entry.name
   pub plain : is_kept (drop 2 d.member.entry.name) ≡ false
   pub pair : new_pair_of d.member v ≡ record { s = d.files.s; p = d.files.p }
   pub settled : recovered_pfile d.files.s d.files.p ≡ d.files.p
 
--- The new files are those that are prepared in a view, but for files that are left out, among them what a step leaves behind.
+-- The new files are those that are prepared in a view, but for files that are left out, among them what a step leaves
+-- behind.
 pub record IsReady (w : List ℕ → Bool) (v : View) (d : Change) : Type 0 where
   pub left : (k : List ℕ) → w k ≡ false → is_left d.member.entry.name k ≡ false
   pub prepared : IsPrepared v d

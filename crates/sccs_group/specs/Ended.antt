@@ -62,8 +62,10 @@ abbrev pub ShowsBad : ℕ → Option View → Type 0
 ShowsBad line o = IfSome o (λ (v : View). IsBad (v intent_file) line)
 
 abbrev pub FinishesGroup : Result Bool StepFault → Told → Told → Type 0
-FinishesGroup (Ok there) old new = IsFinished old new × IfSome (seen old) (λ (v : View). there ≡ is_some (v intent_file))
-FinishesGroup (Err (step.Refused refusal)) old new = (line : ℕ) × (refusal ≡ BadIntent line) × LosesPlan old new × ShowsBad line (seen old)
+FinishesGroup (Ok there) old new = IsFinished old new × IfSome (seen old) (λ (v : View). there ≡ is_some
+    (v intent_file))
+FinishesGroup (Err (step.Refused refusal)) old new = (line : ℕ) × (refusal ≡ BadIntent line) × LosesPlan old new
+    × ShowsBad line (seen old)
 FinishesGroup (Err step.Memory) old new = LosesPlan old new
 FinishesGroup (Err step.DiskFault) old new = IsCutOff old new
 FinishesGroup (Err step.ReadFault) old new = ⊥

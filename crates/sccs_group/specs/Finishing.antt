@@ -46,7 +46,8 @@ pub record Finishes (m : Model) (past : List Model) (new : Told) : Type 0 where
 
 -- so it is where finishing may begin and P holds of the view
 abbrev pub FinishesBy : (View → Type 0) → Told → Told → Type 0
-FinishesBy P old new = (m : Model) (past : List Model) → old ≡ Tells m past → CanFinish m → P (view_of m) → Finishes m past new
+FinishesBy P old new = (m : Model) (past : List Model) → old ≡ Tells m past → CanFinish m → P (view_of m)
+    → Finishes m past new
 
 -- It was finished whole: the disk is calm, and each image recovers as one of the start with all operations made.
 pub record Completes (m : Model) (past : List Model) (new : Told) : Type 0 where
@@ -55,7 +56,8 @@ pub record Completes (m : Model) (past : List Model) (new : Told) : Type 0 where
   pub all : (w : View) → Image (newest run.added m) w → (u : View) × Full m u × RecoversAs u w
 
 abbrev pub CompletesBy : (View → Type 0) → Told → Told → Type 0
-CompletesBy P old new = (m : Model) (past : List Model) → old ≡ Tells m past → CanFinish m → P (view_of m) → Completes m past new
+CompletesBy P old new = (m : Model) (past : List Model) → old ≡ Tells m past → CanFinish m → P (view_of m)
+    → Completes m past new
 
 -- of any view
 abbrev pub Always : View → Type 0
@@ -86,4 +88,5 @@ pub record CanClose (members : List Member) (v : View) : Type 0 where
 -- a name operation is made where a file is there, or nothing changes
 abbrev pub MayCall : Op → List ℕ → Told → Told → Type 0
 MayCall op k old new =
-    (m : Model) (past : List Model) → old ≡ Tells m past → (new ≡ old) ⊎ (IsSome (view_of m k) × (new ≡ Tells (pended op m) (m ∷ past)))
+    (m : Model) (past : List Model) → old ≡ Tells m past → (new ≡ old)
+    ⊎ (IsSome (view_of m k) × (new ≡ Tells (pended op m) (m ∷ past)))

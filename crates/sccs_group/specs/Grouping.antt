@@ -69,15 +69,18 @@ IsGrouped m w j u = RecoversAs w u ⊎ ((j ≡ 0) × IsFrom m u)
 abbrev pub StayHeld : List Model → Model → Type 0
 StayHeld added m = Allows IsHeld m → Each (Allows IsHeld) added m
 
--- Each image of each moment recovers as one from before the commit, or as the view with the intent; the group may be finished.
+-- Each image of each moment recovers as one from before the commit, or as the view with the intent; the group may be
+-- finished.
 abbrev pub GroupStops : List Member → Told → Told → Type 0
 GroupStops members old new = (m : Model) (past : List Model) → old ≡ Tells m past → CanGroup members m
-    → (went : Went (IsGrouped m (announced members (view_of m))) m past 0 new) × CanFinish (newest went.added m) × StayHeld went.added m
+    → (went : Went (IsGrouped m (announced members (view_of m))) m past 0 new) × CanFinish (newest went.added m)
+    × StayHeld went.added m
 
 -- At the end each image recovers as the view with the intent, and the disk is calm.
 abbrev pub GroupEnds : List Member → Told → Told → Type 0
 GroupEnds members old new = (m : Model) (past : List Model) → old ≡ Tells m past → CanGroup members m
-    → (went : Went (IsGrouped m (announced members (view_of m))) m past 1 new) × IsCalm (newest went.added m) × StayHeld went.added m
+    → (went : Went (IsGrouped m (announced members (view_of m))) m past 1 new) × IsCalm (newest went.added m)
+    × StayHeld went.added m
 
 -- ---- behind the plan
 
@@ -89,8 +92,10 @@ pub record CanAnnounce (members : List Member) (m : Model) : Type 0 where
 
 abbrev pub AnnounceStops : List Member → Told → Told → Type 0
 AnnounceStops members old new = (m : Model) (past : List Model) → old ≡ Tells m past → CanAnnounce members m
-    → (went : Went (IsGrouped m (renamed plan_file intent_file (view_of m))) m past 0 new) × CanFinish (newest went.added m) × StayHeld went.added m
+    → (went : Went (IsGrouped m (renamed plan_file intent_file (view_of m))) m past 0 new)
+    × CanFinish (newest went.added m) × StayHeld went.added m
 
 abbrev pub AnnounceEnds : List Member → Told → Told → Type 0
 AnnounceEnds members old new = (m : Model) (past : List Model) → old ≡ Tells m past → CanAnnounce members m
-    → (went : Went (IsGrouped m (renamed plan_file intent_file (view_of m))) m past 1 new) × IsCalm (newest went.added m) × StayHeld went.added m
+    → (went : Went (IsGrouped m (renamed plan_file intent_file (view_of m))) m past 1 new)
+    × IsCalm (newest went.added m) × StayHeld went.added m

@@ -54,8 +54,10 @@ NoneLocked members v = AllByRecursion (λ (mem : Member). v (z_file mem.entry.na
 abbrev pub part_placed : ℕ → Member → View → View
 part_placed zero mem v = v
 part_placed (suc zero) mem v = taken (x_file mem.entry.name) mem.entry.name v
-part_placed (suc (suc zero)) mem v = p_taken mem.entry.fate mem.entry.name (taken (x_file mem.entry.name) mem.entry.name v)
-part_placed (suc (suc (suc zero))) mem v = without_name (y_file mem.entry.name) (p_taken mem.entry.fate mem.entry.name (taken (x_file mem.entry.name) mem.entry.name v))
+part_placed (suc (suc zero)) mem v = p_taken mem.entry.fate mem.entry.name (taken (x_file mem.entry.name) mem.entry.name
+    v)
+part_placed (suc (suc (suc zero))) mem v = without_name (y_file mem.entry.name) (p_taken mem.entry.fate mem.entry.name
+    (taken (x_file mem.entry.name) mem.entry.name v))
 part_placed (suc (suc (suc (suc some)))) mem v = placed mem v
 
 -- the view after all calls of so many first members, and some first calls of the next one
@@ -74,4 +76,5 @@ PlacesFirst members old new = (whole : ℕ) × (some : ℕ) × Becomes (first_pl
 
 -- the same but for the plan, the intent and the z-files
 abbrev pub IsHalfway : List Member → Option View → Option View → Type 0
-IsHalfway members old new = (whole : ℕ) × (some : ℕ) × Moves (is_left_of_group members) (first_placed whole some members) old new
+IsHalfway members old new = (whole : ℕ) × (some : ℕ) × Moves (is_left_of_group members)
+    (first_placed whole some members) old new

@@ -44,7 +44,8 @@ g_gone false n v = v
 abbrev pub placed : Member → View → View
 placed mem v =
     g_gone mem.removes_g mem.entry.name
-    (without_name (y_file mem.entry.name) (p_taken mem.entry.fate mem.entry.name (taken (x_file mem.entry.name) mem.entry.name v)))
+    (without_name (y_file mem.entry.name) (p_taken mem.entry.fate mem.entry.name
+    (taken (x_file mem.entry.name) mem.entry.name v)))
 
 -- the z-file is gone
 abbrev pub unlocked : Member → View → View

@@ -20,7 +20,8 @@ use sccs_intents::Fate;
 /// Removes a file where it is there.
 pub fn clear<D: Disk>(disk: &mut D, name: &Name) -> Result<(), Failed>
     ensures view { OnOk result (Becomes (without_name name.now) (seen (D.told disk.old)) (seen (D.told disk.new))) }
-    ensures view_err { OnErr result (MayBecome (without_name name.now) (seen (D.told disk.old)) (seen (D.told disk.new))) }
+    ensures view_err { OnErr result (MayBecome (without_name name.now) (seen (D.told disk.old))
+        (seen (D.told disk.new))) }
     ensures call { MayCall (Remove name.now) name.now (D.told disk.old) (D.told disk.new) }
     ensures touches { TouchesOnly (bytes_eq name.now) (D.told disk.old) (D.told disk.new) }
     ensures causes { DiskCauses (IsErr result) (D.faults disk.old) (D.faults disk.new) }
@@ -35,7 +36,8 @@ pub fn clear<D: Disk>(disk: &mut D, name: &Name) -> Result<(), Failed>
 /// Puts a file that is there in the place of another.
 pub fn take_place<D: Disk>(disk: &mut D, from: &Name, to: &Name) -> Result<(), Failed>
     ensures view { OnOk result (Becomes (taken from.now to.now) (seen (D.told disk.old)) (seen (D.told disk.new))) }
-    ensures view_err { OnErr result (MayBecome (taken from.now to.now) (seen (D.told disk.old)) (seen (D.told disk.new))) }
+    ensures view_err { OnErr result (MayBecome (taken from.now to.now) (seen (D.told disk.old))
+        (seen (D.told disk.new))) }
     ensures call { MayCall (Rename from.now to.now) from.now (D.told disk.old) (D.told disk.new) }
     ensures causes { DiskCauses (IsErr result) (D.faults disk.old) (D.faults disk.new) }
 {
@@ -49,8 +51,10 @@ pub fn take_place<D: Disk>(disk: &mut D, from: &Name, to: &Name) -> Result<(), F
 // puts the x-file in the place of the s-file
 fn place_s<D: Disk>(disk: &mut D, name: &Name) -> Result<(), Failed>
     requires { IsSFileName name.now }
-    ensures view { OnOk result (Becomes (taken (x_file name.now) name.now) (seen (D.told disk.old)) (seen (D.told disk.new))) }
-    ensures view_err { OnErr result (MayBecome (taken (x_file name.now) name.now) (seen (D.told disk.old)) (seen (D.told disk.new))) }
+    ensures view { OnOk result (Becomes (taken (x_file name.now) name.now) (seen (D.told disk.old))
+        (seen (D.told disk.new))) }
+    ensures view_err { OnErr result (MayBecome (taken (x_file name.now) name.now) (seen (D.told disk.old))
+        (seen (D.told disk.new))) }
     ensures call { MayCall (Rename (x_file name.now) name.now) (x_file name.now) (D.told disk.old) (D.told disk.new) }
     ensures causes { DiskCauses (IsErr result) (D.faults disk.old) (D.faults disk.new) }
 {
@@ -60,9 +64,12 @@ fn place_s<D: Disk>(disk: &mut D, name: &Name) -> Result<(), Failed>
 // puts the q-file in the place of the p-file
 fn place_q<D: Disk>(disk: &mut D, name: &Name) -> Result<(), Failed>
     requires { IsSFileName name.now }
-    ensures view { OnOk result (Becomes (taken (q_file name.now) (p_file name.now)) (seen (D.told disk.old)) (seen (D.told disk.new))) }
-    ensures view_err { OnErr result (MayBecome (taken (q_file name.now) (p_file name.now)) (seen (D.told disk.old)) (seen (D.told disk.new))) }
-    ensures call { MayCall (Rename (q_file name.now) (p_file name.now)) (q_file name.now) (D.told disk.old) (D.told disk.new) }
+    ensures view { OnOk result (Becomes (taken (q_file name.now) (p_file name.now)) (seen (D.told disk.old))
+        (seen (D.told disk.new))) }
+    ensures view_err { OnErr result (MayBecome (taken (q_file name.now) (p_file name.now)) (seen (D.told disk.old))
+        (seen (D.told disk.new))) }
+    ensures call { MayCall (Rename (q_file name.now) (p_file name.now)) (q_file name.now) (D.told disk.old)
+        (D.told disk.new) }
     ensures causes { DiskCauses (IsErr result) (D.faults disk.old) (D.faults disk.new) }
 {
     take_place(disk, &name.sibling(b'q'), &name.sibling(b'p'))
@@ -73,9 +80,12 @@ pub fn clear_sibling<D: Disk>(disk: &mut D, name: &Name, letter: u8) -> Result<(
     requires sfile { IsSFileName name.now }
     requires low { 97 ≤ letter }
     requires high { letter ≤ 122 }
-    ensures view { OnOk result (Becomes (without_name (sibling letter name.now)) (seen (D.told disk.old)) (seen (D.told disk.new))) }
-    ensures view_err { OnErr result (MayBecome (without_name (sibling letter name.now)) (seen (D.told disk.old)) (seen (D.told disk.new))) }
-    ensures call { MayCall (Remove (sibling letter name.now)) (sibling letter name.now) (D.told disk.old) (D.told disk.new) }
+    ensures view { OnOk result (Becomes (without_name (sibling letter name.now)) (seen (D.told disk.old))
+        (seen (D.told disk.new))) }
+    ensures view_err { OnErr result (MayBecome (without_name (sibling letter name.now)) (seen (D.told disk.old))
+        (seen (D.told disk.new))) }
+    ensures call { MayCall (Remove (sibling letter name.now)) (sibling letter name.now) (D.told disk.old)
+        (D.told disk.new) }
     ensures causes { DiskCauses (IsErr result) (D.faults disk.old) (D.faults disk.new) }
 {
     clear(disk, &name.sibling(letter))
@@ -84,8 +94,10 @@ pub fn clear_sibling<D: Disk>(disk: &mut D, name: &Name, letter: u8) -> Result<(
 // removes the g-file where it is there
 fn clear_g<D: Disk>(disk: &mut D, name: &Name) -> Result<(), Failed>
     requires { IsSFileName name.now }
-    ensures view { OnOk result (Becomes (without_name (drop 2 name.now)) (seen (D.told disk.old)) (seen (D.told disk.new))) }
-    ensures view_err { OnErr result (MayBecome (without_name (drop 2 name.now)) (seen (D.told disk.old)) (seen (D.told disk.new))) }
+    ensures view { OnOk result (Becomes (without_name (drop 2 name.now)) (seen (D.told disk.old))
+        (seen (D.told disk.new))) }
+    ensures view_err { OnErr result (MayBecome (without_name (drop 2 name.now)) (seen (D.told disk.old))
+        (seen (D.told disk.new))) }
     ensures call { MayCall (Remove (drop 2 name.now)) (drop 2 name.now) (D.told disk.old) (D.told disk.new) }
     ensures causes { DiskCauses (IsErr result) (D.faults disk.old) (D.faults disk.new) }
 {
@@ -96,7 +108,8 @@ fn clear_g<D: Disk>(disk: &mut D, name: &Name) -> Result<(), Failed>
 fn place_p<D: Disk>(disk: &mut D, name: &Name, fate: Fate) -> Result<(), Failed>
     requires { IsSFileName name.now }
     ensures view { OnOk result (Becomes (p_taken fate name.now) (seen (D.told disk.old)) (seen (D.told disk.new))) }
-    ensures view_err { OnErr result (MayBecome (p_taken fate name.now) (seen (D.told disk.old)) (seen (D.told disk.new))) }
+    ensures view_err { OnErr result (MayBecome (p_taken fate name.now) (seen (D.told disk.old))
+        (seen (D.told disk.new))) }
     ensures story { FinishesBy (λ (v : View). fate_at v name.now ≡ Some fate) (D.told disk.old) (D.told disk.new) }
     ensures others { KeepsOthers (is_own_but_g name.now) (D.told disk.old) (D.told disk.new) }
     ensures causes { DiskCauses (IsErr result) (D.faults disk.old) (D.faults disk.new) }
@@ -110,8 +123,10 @@ fn place_p<D: Disk>(disk: &mut D, name: &Name, fate: Fate) -> Result<(), Failed>
 // removes the g-file of a member where it goes
 fn place_g<D: Disk>(disk: &mut D, member: &Member) -> Result<(), Failed>
     requires { IsSFileName member.now.entry.name }
-    ensures view { OnOk result (Becomes (g_gone member.now.removes_g member.now.entry.name) (seen (D.told disk.old)) (seen (D.told disk.new))) }
-    ensures view_err { OnErr result (MayBecome (g_gone member.now.removes_g member.now.entry.name) (seen (D.told disk.old)) (seen (D.told disk.new))) }
+    ensures view { OnOk result (Becomes (g_gone member.now.removes_g member.now.entry.name) (seen (D.told disk.old))
+        (seen (D.told disk.new))) }
+    ensures view_err { OnErr result (MayBecome (g_gone member.now.removes_g member.now.entry.name)
+        (seen (D.told disk.old)) (seen (D.told disk.new))) }
     ensures story { FinishesBy (λ (v : View). IsNamed v member.now) (D.told disk.old) (D.told disk.new) }
     ensures others { KeepsOthers (is_own_of_member member.now) (D.told disk.old) (D.told disk.new) }
     ensures causes { DiskCauses (IsErr result) (D.faults disk.old) (D.faults disk.new) }

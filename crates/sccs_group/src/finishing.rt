@@ -7,8 +7,10 @@ ghost use Rattle.sccs_intents.specs.Intents.{intent_file};
 ghost use Rattle.sccs_crash_points.specs.Unlocked.{KeepsOthers};
 ghost use Rattle.sccs_store.specs.Commits.{Becomes};
 ghost use Rattle.sccs_group.specs.Finishing.{CanClose, CompletesBy, FinishesBy, AreUnlocked};
-ghost use Rattle.sccs_group.specs.Halfway.{IsHalfway, PlacesFirst, is_left_of_group, is_lock_of, is_own_of, is_own_of_group};
-ghost use Rattle.sccs_group.specs.Members.{AreMembers, AreNamed, HasGroup, closed, completed, each_by, placed, unlocked};
+ghost use Rattle.sccs_group.specs.Halfway.{IsHalfway, PlacesFirst, is_left_of_group, is_lock_of, is_own_of};
+ghost use Rattle.sccs_group.specs.Halfway.{is_own_of_group};
+ghost use Rattle.sccs_group.specs.Members.{AreMembers, AreNamed, HasGroup, closed, completed, each_by, placed};
+ghost use Rattle.sccs_group.specs.Members.{unlocked};
 
 use crate::calls::{clear, clear_sibling, place};
 use crate::members::Member;
@@ -18,7 +20,8 @@ use sccs_disk::Disk;
 // puts the new files of members in their places, one member after the other
 fn place_all<D: Disk>(disk: &mut D, members: &[Member]) -> Result<(), Failed>
     requires { AreMembers members.now }
-    ensures view { OnOk result (Becomes (each_by placed members.now) (seen (D.told disk.old)) (seen (D.told disk.new))) }
+    ensures view { OnOk result (Becomes (each_by placed members.now) (seen (D.told disk.old))
+        (seen (D.told disk.new))) }
     ensures halfway { OnErr result (PlacesFirst members.now (seen (D.told disk.old)) (seen (D.told disk.new))) }
     ensures story { FinishesBy (AreNamed members.now) (D.told disk.old) (D.told disk.new) }
     ensures others { KeepsOthers (is_own_of members.now) (D.told disk.old) (D.told disk.new) }
@@ -33,7 +36,8 @@ fn place_all<D: Disk>(disk: &mut D, members: &[Member]) -> Result<(), Failed>
 // removes the z-file of each member where it is there
 fn unlock_all<D: Disk>(disk: &mut D, members: &[Member]) -> Result<(), Failed>
     requires { AreMembers members.now }
-    ensures view { OnOk result (Becomes (each_by unlocked members.now) (seen (D.told disk.old)) (seen (D.told disk.new))) }
+    ensures view { OnOk result (Becomes (each_by unlocked members.now) (seen (D.told disk.old))
+        (seen (D.told disk.new))) }
     ensures moves { Moves (is_lock_of members.now) (λ (v : View). v) (seen (D.told disk.old)) (seen (D.told disk.new)) }
     ensures story { FinishesBy (AreUnlocked members.now) (D.told disk.old) (D.told disk.new) }
     ensures others { KeepsOthers (is_lock_of members.now) (D.told disk.old) (D.told disk.new) }
@@ -50,7 +54,8 @@ fn close<D: Disk>(disk: &mut D, intent: &Name, members: &[Member]) -> Result<(),
     requires intent { intent.now ≡ intent_file }
     requires members { AreMembers members.now }
     ensures view { OnOk result (Becomes (closed members.now) (seen (D.told disk.old)) (seen (D.told disk.new))) }
-    ensures moves { Moves (is_left_of_group members.now) (λ (v : View). v) (seen (D.told disk.old)) (seen (D.told disk.new)) }
+    ensures moves { Moves (is_left_of_group members.now) (λ (v : View). v) (seen (D.told disk.old))
+        (seen (D.told disk.new)) }
     ensures story { FinishesBy (CanClose members.now) (D.told disk.old) (D.told disk.new) }
     ensures done { OnOk result (CompletesBy (CanClose members.now) (D.told disk.old) (D.told disk.new)) }
     ensures others { KeepsOthers (is_left_of_group members.now) (D.told disk.old) (D.told disk.new) }

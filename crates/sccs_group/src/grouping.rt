@@ -37,7 +37,8 @@ fn announce<D: Disk>(
     requires there { IsThere plan.now (D.told disk.old) }
     requires members { AreMembers members.now }
     requires written { IsWritten members.now }
-    ensures view { OnOk result (Becomes (λ (v : View). completed members.now (renamed plan_file intent_file v)) (seen (D.told disk.old)) (seen (D.told disk.new))) }
+    ensures view { OnOk result (Becomes (λ (v : View). completed members.now (renamed plan_file intent_file v))
+        (seen (D.told disk.old)) (seen (D.told disk.new))) }
     ensures halfway { OnErr result (IsHalfway members.now (seen (D.told disk.old)) (seen (D.told disk.new))) }
     ensures stops { OnErr result (AnnounceStops members.now (D.told disk.old) (D.told disk.new)) }
     ensures ends { OnOk result (AnnounceEnds members.now (D.told disk.old) (D.told disk.new)) }
@@ -63,10 +64,13 @@ fn commit_text<D: Disk>(
     requires text { text.now ≡ intent_text (entries_of members.now) }
     requires members { AreMembers members.now }
     requires written { IsWritten members.now }
-    ensures view { OnOk result (Becomes (λ (v : View). completed members.now (announced members.now v)) (seen (D.told disk.old)) (seen (D.told disk.new))) }
+    ensures view { OnOk result (Becomes (λ (v : View). completed members.now (announced members.now v))
+        (seen (D.told disk.old)) (seen (D.told disk.new))) }
     ensures halfway { OnErr result (IsHalfway members.now (seen (D.told disk.old)) (seen (D.told disk.new))) }
-    ensures memory { IsErrOf result DiskRefusal.Memory → TouchesOnly (bytes_eq plan_file) (D.told disk.old) (D.told disk.new) }
-    ensures gone { IsErrOf result DiskRefusal.Memory → Becomes (without_name plan_file) (seen (D.told disk.old)) (seen (D.told disk.new)) }
+    ensures memory { IsErrOf result DiskRefusal.Memory → TouchesOnly (bytes_eq plan_file) (D.told disk.old)
+        (D.told disk.new) }
+    ensures gone { IsErrOf result DiskRefusal.Memory → Becomes (without_name plan_file) (seen (D.told disk.old))
+        (seen (D.told disk.new)) }
     ensures stops { OnErr result (GroupStops members.now (D.told disk.old) (D.told disk.new)) }
     ensures ends { OnOk result (GroupEnds members.now (D.told disk.old) (D.told disk.new)) }
     ensures others { KeepsOthers (is_own_of_group members.now) (D.told disk.old) (D.told disk.new) }

@@ -12,16 +12,19 @@ ghost use Rattle.sccs_crash_points.specs.Calm.{IsCalm};
 ghost use Rattle.sccs_crash_points.specs.CrashPoints.{EndsAfter, EndsBefore, EndsWithin, IsFrom, RecoversOn, Went};
 ghost use Rattle.sccs_crash_points.specs.Recovery.{RecoversAs, fate_at, pair_of, recover};
 ghost use Rattle.sccs_crash_points.specs.Unlocked.{BeginsUnlocked, BeginsUnlockedBut, KeepsOthers};
-ghost use Rattle.sccs_group.specs.Changes.{Change, IsPrepared, IsReady, LFileStays, LFilesStay, after_changes, members_in};
+ghost use Rattle.sccs_group.specs.Changes.{Change, IsPrepared, IsReady, LFileStays, LFilesStay, after_changes};
+ghost use Rattle.sccs_group.specs.Changes.{members_in};
 ghost use Rattle.sccs_group.specs.Finishing.{Completes};
 ghost use Rattle.sccs_group.specs.Grouping.{CanGroup, GroupEnds, GroupStops, announced, new_pair_of};
-ghost use Rattle.sccs_group.specs.Halfway.{NoneLocked, first_placed, intended, is_left_of_group, is_own_of_group, part_placed};
+ghost use Rattle.sccs_group.specs.Halfway.{NoneLocked, first_placed, intended, is_left_of_group, is_own_of_group};
+ghost use Rattle.sccs_group.specs.Halfway.{part_placed};
 ghost use Rattle.sccs_group.specs.Members.{AreMembers, IsPlainG, IsWritten, completed, each_by, entries_of, placed};
 ghost use Rattle.sccs_group.specs.declared.members.Member.{Member};
 
 /// Up to a thousand members, at least one, of which no two have the same name, may be written as an intent.
 pub fn thousand_members_are_written()
-    ensures { (members : List Member) → 0 < length members → length members ≤ 1000 → AreMembers members → IsWritten members }
+    ensures { (members : List Member) → 0 < length members → length members ≤ 1000 → AreMembers members
+        → IsWritten members }
 {}
 
 /// A group that begins on a calm disk is made whole or not at all, wherever it is stopped. Calls before it
@@ -31,7 +34,8 @@ pub fn groups_are_made_whole()
     ensures before { (b d : Told) (m : Model) (past : List Model) → EndsBefore (view_of m) m past b
         → ((m1 : Model) (past1 : List Model) → b ≡ Tells m1 past1 → IsCalm m1 → EndsBefore (view_of m1) m1 past1 d)
         → EndsBefore (view_of m) m past d }
-    ensures within { (members : List Member) (a b d : Told) (m : Model) (past : List Model) (w : View) → a ≡ Tells m past
+    ensures within { (members : List Member) (a b d : Told) (m : Model) (past : List Model) (w : View)
+        → a ≡ Tells m past
         → EndsBefore (view_of m) m past b → Leaves (CanGroup members) a b
         → ((m1 : Model) (past1 : List Model) → b ≡ Tells m1 past1 → RecoversAs w (announced members (view_of m1)))
         → GroupStops members b d → EndsWithin (view_of m) w m past d }
@@ -47,7 +51,8 @@ pub fn intents_name_the_new_files()
     ensures members { (members : List Member) (v : View) (member : Member) → IsSFileName member.entry.name
         → fate_at (announced members v) member.entry.name ≡ Some member.entry.fate
         → pair_of (recover member.entry.name (announced members v)) member.entry.name ≡ new_pair_of member v }
-    ensures others { (members : List Member) (v : View) (n : List ℕ) → IsWritten members → IsSFileName n → v intent_file ≡ None
+    ensures others { (members : List Member) (v : View) (n : List ℕ) → IsWritten members → IsSFileName n
+        → v intent_file ≡ None
         → has_name (entries_of members) n ≡ false
         → pair_of (recover n (announced members v)) n ≡ pair_of (recover n v) n }
 {}
@@ -70,9 +75,11 @@ pub fn groups_recover_as_their_views()
 /// names are members, whose g-files stay.
 pub fn groups_leave_other_names()
     ensures intended { (v : View) → AreMembers (intended v) × AllByRecursion IsPlainG (intended v) }
-    ensures others { (members : List Member) (n : List ℕ) → AreMembers members → AllByRecursion IsPlainG members → IsSFileName n
+    ensures others { (members : List Member) (n : List ℕ) → AreMembers members → AllByRecursion IsPlainG members
+        → IsSFileName n
         → has_name (entries_of members) n ≡ false
-        → (is_own_of_group members n ≡ false) × (is_own_of_group members (p_file n) ≡ false) × (is_own_of_group members (z_file n) ≡ false) }
+        → (is_own_of_group members n ≡ false) × (is_own_of_group members (p_file n) ≡ false)
+        × (is_own_of_group members (z_file n) ≡ false) }
 {}
 
 /// A call that changes the files of a group alone begins unlocked where none of its z-files was there, and
@@ -94,9 +101,11 @@ pub fn members_get_their_files()
     ensures s { (w : List ℕ → Bool) (d : Change) (v u : View) → IsReady w v d → Alike w v u
         → Alike w (part_placed 1 d.member v) (put u d.member.entry.name d.files.s) }
     ensures p { (w : List ℕ → Bool) (d : Change) (v u : View) → IsReady w v d → Alike w v u
-        → Alike w (part_placed 2 d.member v) (put (put u d.member.entry.name d.files.s) (p_file d.member.entry.name) d.files.p) }
+        → Alike w (part_placed 2 d.member v) (put (put u d.member.entry.name d.files.s) (p_file d.member.entry.name)
+        d.files.p) }
     ensures y { (w : List ℕ → Bool) (d : Change) (v u : View) → IsReady w v d → Alike w v u
-        → Alike w (part_placed 3 d.member v) (put (put u d.member.entry.name d.files.s) (p_file d.member.entry.name) d.files.p) }
+        → Alike w (part_placed 3 d.member v) (put (put u d.member.entry.name d.files.s) (p_file d.member.entry.name)
+        d.files.p) }
     ensures all { (w : List ℕ → Bool) (d : Change) (v u : View) → IsReady w v d → LFileStays w d u → Alike w v u
         → Alike w (placed d.member v) (moved u d.member.entry.name (Some d.files)) }
     ensures others { (w : List ℕ → Bool) (d other : Change) (v : View) → IsReady w v d → IsReady w v other
@@ -110,5 +119,6 @@ pub fn members_get_their_files()
 /// z-files.
 pub fn whole_groups_are_placed()
     ensures { (members : List Member) (v : View)
-        → Alike (is_left_of_group members) (completed members (announced members v)) (first_placed (length members) 0 members v) }
+        → Alike (is_left_of_group members) (completed members (announced members v))
+        (first_placed (length members) 0 members v) }
 {}

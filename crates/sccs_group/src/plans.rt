@@ -21,7 +21,8 @@ use sccs_store::renew;
 // appends bytes to a file, and syncs it
 fn append_text<D: Disk>(disk: &mut D, name: &Name, text: &[u8]) -> Result<(), DiskRefusal>
     requires { IsThere name.now (D.told disk.old) }
-    ensures view { OnOk result (Becomes (altered name.now (appended text.now)) (seen (D.told disk.old)) (seen (D.told disk.new))) }
+    ensures view { OnOk result (Becomes (altered name.now (appended text.now)) (seen (D.told disk.old))
+        (seen (D.told disk.new))) }
     ensures only { OnlyWrites name.now (D.told disk.old) (D.told disk.new) }
     ensures firm { OnOk result (Leaves (IsFirm name.now) (D.told disk.old) (D.told disk.new)) }
     ensures causes { DiskCauses (IsErrOf result DiskRefusal.Failed) (D.faults disk.old) (D.faults disk.new) }
@@ -37,8 +38,10 @@ fn append_text<D: Disk>(disk: &mut D, name: &Name, text: &[u8]) -> Result<(), Di
 
 // makes a file of these bytes, in place of one that is there, and syncs it
 fn write_text<D: Disk>(disk: &mut D, name: &Name, text: &[u8]) -> Result<(), DiskRefusal>
-    ensures view { OnOk result (Becomes (λ (v : View). put v name.now (Some (file_of text.now))) (seen (D.told disk.old)) (seen (D.told disk.new))) }
-    ensures view_err { OnErr result (Moves (bytes_eq name.now) (λ (v : View). v) (seen (D.told disk.old)) (seen (D.told disk.new))) }
+    ensures view { OnOk result (Becomes (λ (v : View). put v name.now (Some (file_of text.now)))
+        (seen (D.told disk.old)) (seen (D.told disk.new))) }
+    ensures view_err { OnErr result (Moves (bytes_eq name.now) (λ (v : View). v) (seen (D.told disk.old))
+        (seen (D.told disk.new))) }
     ensures touches { TouchesOnly (bytes_eq name.now) (D.told disk.old) (D.told disk.new) }
     ensures firm { OnOk result (Leaves (IsFirm name.now) (D.told disk.old) (D.told disk.new)) }
     ensures causes { DiskCauses (IsErrOf result DiskRefusal.Failed) (D.faults disk.old) (D.faults disk.new) }
@@ -49,7 +52,8 @@ fn write_text<D: Disk>(disk: &mut D, name: &Name, text: &[u8]) -> Result<(), Dis
 
 /// Removes a file for which memory was wanting, where it is there; it is gone, or the disk failed.
 pub fn drop_text<D: Disk>(disk: &mut D, name: &Name) -> DiskRefusal
-    ensures gone { result ≡ DiskRefusal.Memory → Becomes (without_name name.now) (seen (D.told disk.old)) (seen (D.told disk.new)) }
+    ensures gone { result ≡ DiskRefusal.Memory → Becomes (without_name name.now) (seen (D.told disk.old))
+        (seen (D.told disk.new)) }
     ensures moves { Moves (bytes_eq name.now) (λ (v : View). v) (seen (D.told disk.old)) (seen (D.told disk.new)) }
     ensures touches { TouchesOnly (bytes_eq name.now) (D.told disk.old) (D.told disk.new) }
     ensures causes { DiskCauses (result ≡ DiskRefusal.Failed) (D.faults disk.old) (D.faults disk.new) }
@@ -63,9 +67,12 @@ pub fn drop_text<D: Disk>(disk: &mut D, name: &Name) -> DiskRefusal
 /// Makes a file of these bytes, in place of one that is there, and syncs it. At want of memory the file
 /// is gone.
 pub fn write_anew<D: Disk>(disk: &mut D, name: &Name, text: &[u8]) -> Result<(), DiskRefusal>
-    ensures view { OnOk result (Becomes (λ (v : View). put v name.now (Some (file_of text.now))) (seen (D.told disk.old)) (seen (D.told disk.new))) }
-    ensures view_err { OnErr result (Moves (bytes_eq name.now) (λ (v : View). v) (seen (D.told disk.old)) (seen (D.told disk.new))) }
-    ensures gone { IsErrOf result DiskRefusal.Memory → Becomes (without_name name.now) (seen (D.told disk.old)) (seen (D.told disk.new)) }
+    ensures view { OnOk result (Becomes (λ (v : View). put v name.now (Some (file_of text.now)))
+        (seen (D.told disk.old)) (seen (D.told disk.new))) }
+    ensures view_err { OnErr result (Moves (bytes_eq name.now) (λ (v : View). v) (seen (D.told disk.old))
+        (seen (D.told disk.new))) }
+    ensures gone { IsErrOf result DiskRefusal.Memory → Becomes (without_name name.now) (seen (D.told disk.old))
+        (seen (D.told disk.new)) }
     ensures touches { TouchesOnly (bytes_eq name.now) (D.told disk.old) (D.told disk.new) }
     ensures firm { OnOk result (Leaves (IsFirm name.now) (D.told disk.old) (D.told disk.new)) }
     ensures causes { DiskCauses (IsErrOf result DiskRefusal.Failed) (D.faults disk.old) (D.faults disk.new) }

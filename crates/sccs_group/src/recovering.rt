@@ -1,4 +1,5 @@
-ghost use Rattle.std.specs.Prelude.{◌≡◌, ◌≢◌, ℕ, List, Option, Bool, Ok, Err, is_some, IfOk, IfSome, IsErr, IsErrOf, OnErr, OnOk};
+ghost use Rattle.std.specs.Prelude.{◌≡◌, ◌≢◌, ℕ, List, Option, Bool, Ok, Err, is_some, IfOk, IfSome, IsErr, IsErrOf};
+ghost use Rattle.std.specs.Prelude.{OnErr, OnOk};
 ghost use Rattle.sccs_disk.specs.Causes.{DiskCauses};
 ghost use Rattle.sccs_disk.specs.Files.{View};
 ghost use Rattle.sccs_disk.specs.Told.{seen};
@@ -16,7 +17,8 @@ ghost use Rattle.sccs_name_files.specs.Touches.{TouchesOnly};
 ghost use Rattle.sccs_group.specs.declared.members.Member.{Member};
 ghost use Rattle.sccs_group.specs.declared.recovering.GroupFault.{GroupFault};
 ghost use Rattle.sccs_group.specs.declared.recovering.GroupFault.TheVariants as group;
-ghost use Rattle.sccs_group.specs.Recovering.{IsBad, IsWellFormed, ReadsBytes, ReadsMembers, bare, group_finished, intent_finished};
+ghost use Rattle.sccs_group.specs.Recovering.{IsBad, IsWellFormed, ReadsBytes, ReadsMembers, bare, group_finished};
+ghost use Rattle.sccs_group.specs.Recovering.{intent_finished};
 
 use crate::calls::clear;
 use crate::finishing::complete;
@@ -76,7 +78,8 @@ fn read_members<D: Disk>(
 ) -> Result<Option<Members>, GroupFault>
     ensures told { IfSome (seen (D.told disk.old)) (λ (v : View). ReadsMembers (v intent.now) result) }
     ensures members { IfOk result (λ found. IfSome found (λ members. AreMembers members)) }
-    ensures form { IfOk result (λ (found : Option (List Member)). IfSome (seen (D.told disk.old)) (λ (v : View). IsWellFormed (v intent.now))) }
+    ensures form { IfOk result (λ (found : Option (List Member)). IfSome (seen (D.told disk.old))
+        (λ (v : View). IsWellFormed (v intent.now))) }
     ensures same { D.told disk.new ≡ D.told disk.old }
     ensures causes { DiskCauses (IsErrOf result GroupFault.Failed) (D.faults disk.old) (D.faults disk.new) }
 {
@@ -102,11 +105,13 @@ fn finish_found<D: Disk>(
     requires members { IfSome found.now (λ members. AreMembers members) }
     requires told { IfSome (seen (D.told disk.old)) (λ (v : View). ReadsMembers (v intent_file) (Ok found.now)) }
     ensures view { OnOk result (Becomes intent_finished (seen (D.told disk.old)) (seen (D.told disk.new))) }
-    ensures halfway { OnErr result (IfSome (seen (D.told disk.old)) (λ (v : View). IsHalfway (intended v) (seen (D.told disk.old)) (seen (D.told disk.new)))) }
+    ensures halfway { OnErr result (IfSome (seen (D.told disk.old)) (λ (v : View). IsHalfway (intended v)
+        (seen (D.told disk.old)) (seen (D.told disk.new)))) }
     ensures found { IfOk result (λ answer. answer ≡ is_some found.now) }
     ensures story { FinishesBy Always (D.told disk.old) (D.told disk.new) }
     ensures done { OnOk result (CompletesBy Always (D.told disk.old) (D.told disk.new)) }
-    ensures others { IfSome (seen (D.told disk.old)) (λ (v : View). KeepsOthers (is_own_of_group (intended v)) (D.told disk.old) (D.told disk.new)) }
+    ensures others { IfSome (seen (D.told disk.old)) (λ (v : View). KeepsOthers (is_own_of_group (intended v))
+        (D.told disk.old) (D.told disk.new)) }
     ensures causes { DiskCauses (IsErr result) (D.faults disk.old) (D.faults disk.new) }
 {
     match found {
@@ -125,15 +130,20 @@ fn finish_found<D: Disk>(
 fn finish_intent<D: Disk>(alloc: Global, disk: &mut D, intent: &Name) -> Result<bool, GroupFault>
     requires { intent.now ≡ intent_file }
     ensures view { OnOk result (Becomes intent_finished (seen (D.told disk.old)) (seen (D.told disk.new))) }
-    ensures halfway { OnErr result (IfSome (seen (D.told disk.old)) (λ (v : View). IsHalfway (intended v) (seen (D.told disk.old)) (seen (D.told disk.new)))) }
-    ensures found { IfOk result (λ found. IfSome (seen (D.told disk.old)) (λ (v : View). found ≡ is_some (v intent_file))) }
-    ensures form { IfOk result (λ (found : Bool). IfSome (seen (D.told disk.old)) (λ (v : View). IsWellFormed (v intent_file))) }
+    ensures halfway { OnErr result (IfSome (seen (D.told disk.old)) (λ (v : View). IsHalfway (intended v)
+        (seen (D.told disk.old)) (seen (D.told disk.new)))) }
+    ensures found { IfOk result (λ found. IfSome (seen (D.told disk.old)) (λ (v : View). found ≡ is_some
+        (v intent_file))) }
+    ensures form { IfOk result (λ (found : Bool). IfSome (seen (D.told disk.old)) (λ (v : View). IsWellFormed
+        (v intent_file))) }
     ensures bad { (line : ℕ) → result ≡ Err (GroupFault.BadIntent line)
-        → (D.told disk.new ≡ D.told disk.old) × IfSome (seen (D.told disk.old)) (λ (v : View). IsBad (v intent_file) line) }
+        → (D.told disk.new ≡ D.told disk.old) × IfSome (seen (D.told disk.old))
+        (λ (v : View). IsBad (v intent_file) line) }
     ensures memory { IsErrOf result GroupFault.Memory → D.told disk.new ≡ D.told disk.old }
     ensures story { FinishesBy Always (D.told disk.old) (D.told disk.new) }
     ensures done { OnOk result (CompletesBy Always (D.told disk.old) (D.told disk.new)) }
-    ensures others { IfSome (seen (D.told disk.old)) (λ (v : View). KeepsOthers (is_own_of_group (intended v)) (D.told disk.old) (D.told disk.new)) }
+    ensures others { IfSome (seen (D.told disk.old)) (λ (v : View). KeepsOthers (is_own_of_group (intended v))
+        (D.told disk.old) (D.told disk.new)) }
     ensures causes { DiskCauses (IsErrOf result GroupFault.Failed) (D.faults disk.old) (D.faults disk.new) }
 {
     match read_members(alloc, disk, intent) {
@@ -155,16 +165,23 @@ fn finish_named<D: Disk>(
     requires plan { plan.now ≡ plan_file }
     requires intent { intent.now ≡ intent_file }
     ensures view { OnOk result (Becomes group_finished (seen (D.told disk.old)) (seen (D.told disk.new))) }
-    ensures halfway { OnErr result (IfSome (seen (D.told disk.old)) (λ (v : View). IsHalfway (intended v) (seen (D.told disk.old)) (seen (D.told disk.new)))) }
-    ensures found { IfOk result (λ found. IfSome (seen (D.told disk.old)) (λ (v : View). found ≡ is_some (v intent_file))) }
-    ensures form { IfOk result (λ (found : Bool). IfSome (seen (D.told disk.old)) (λ (v : View). IsWellFormed (v intent_file))) }
+    ensures halfway { OnErr result (IfSome (seen (D.told disk.old)) (λ (v : View). IsHalfway (intended v)
+        (seen (D.told disk.old)) (seen (D.told disk.new)))) }
+    ensures found { IfOk result (λ found. IfSome (seen (D.told disk.old)) (λ (v : View). found ≡ is_some
+        (v intent_file))) }
+    ensures form { IfOk result (λ (found : Bool). IfSome (seen (D.told disk.old)) (λ (v : View). IsWellFormed
+        (v intent_file))) }
     ensures bad { (line : ℕ) → result ≡ Err (GroupFault.BadIntent line)
-        → Becomes (without_name plan_file) (seen (D.told disk.old)) (seen (D.told disk.new)) × IfSome (seen (D.told disk.old)) (λ (v : View). IsBad (v intent_file) line) }
-    ensures memory { IsErrOf result GroupFault.Memory → Becomes (without_name plan_file) (seen (D.told disk.old)) (seen (D.told disk.new)) }
-    ensures touches { (fault : GroupFault) → result ≡ Err fault → fault ≢ group.Failed → TouchesOnly (bytes_eq plan_file) (D.told disk.old) (D.told disk.new) }
+        → Becomes (without_name plan_file) (seen (D.told disk.old)) (seen (D.told disk.new))
+        × IfSome (seen (D.told disk.old)) (λ (v : View). IsBad (v intent_file) line) }
+    ensures memory { IsErrOf result GroupFault.Memory → Becomes (without_name plan_file) (seen (D.told disk.old))
+        (seen (D.told disk.new)) }
+    ensures touches { (fault : GroupFault) → result ≡ Err fault → fault ≢ group.Failed
+        → TouchesOnly (bytes_eq plan_file) (D.told disk.old) (D.told disk.new) }
     ensures story { FinishesBy Always (D.told disk.old) (D.told disk.new) }
     ensures done { OnOk result (CompletesBy Always (D.told disk.old) (D.told disk.new)) }
-    ensures others { IfSome (seen (D.told disk.old)) (λ (v : View). KeepsOthers (is_own_of_group (intended v)) (D.told disk.old) (D.told disk.new)) }
+    ensures others { IfSome (seen (D.told disk.old)) (λ (v : View). KeepsOthers (is_own_of_group (intended v))
+        (D.told disk.old) (D.told disk.new)) }
     ensures causes { DiskCauses (IsErrOf result GroupFault.Failed) (D.faults disk.old) (D.faults disk.new) }
 {
     match clear(disk, plan) {
@@ -191,7 +208,8 @@ fn step_result(finished: Result<bool, GroupFault>) -> Result<bool, StepFault>
 /// recovers as a folder that a stop could leave at the start, so it may be stopped anywhere and run again.
 pub fn finish_group<D: Disk>(alloc: Global, disk: &mut D) -> Result<bool, StepFault>
     ensures ends { FinishesGroup result (D.told disk.old) (D.told disk.new) }
-    ensures others { IfSome (seen (D.told disk.old)) (λ (v : View). KeepsOthers (is_own_of_group (intended v)) (D.told disk.old) (D.told disk.new)) }
+    ensures others { IfSome (seen (D.told disk.old)) (λ (v : View). KeepsOthers (is_own_of_group (intended v))
+        (D.told disk.old) (D.told disk.new)) }
     ensures causes { DiskCauses (result ≡ Err step.DiskFault) (D.faults disk.old) (D.faults disk.new) }
 {
     step_result(finish_named(alloc, disk, &plan_name(), &intent_name()))

@@ -10,15 +10,19 @@ use Rattle.sccs_group_command.specs.Preparing.{GivesAllBack}
 use Rattle.sccs_group_command.proofs.Turns.{other_fault, which}
 
 -- memory was wanting, and entries are given up
-pub back_causes : {T : Type 0} (q : Result T StepFault) (r : StepFault) (names : List (List ℕ)) (o o2 : Option View) (out err d d2 : ℕ) → q ≡ Err r → d ≤ d2 → (r ≡ DiskFault → ((Memory ≡ DiskFault) × (d2 ≡ d)) ⊎ Rose d d2) → GivesAllBack r Memory names o o2
+pub back_causes : {T : Type 0} (q : Result T StepFault) (r : StepFault) (names : List (List ℕ)) (o o2 : Option View)
+    (out err d d2 : ℕ) → q ≡ Err r → d ≤ d2 → (r ≡ DiskFault → ((Memory ≡ DiskFault) × (d2 ≡ d)) ⊎ Rose d d2)
+    → GivesAllBack r Memory names o o2
     → StepCauses q (counts 0 out err d) (counts 0 out err d2)
 back_causes {T} q r names o o2 out err d d2 is low cause gives = record {
   input_later = omega arith;
   out_later = omega arith;
   err_later = omega arith;
   disk_later = low;
-  read = λ found. absurd (other_fault r Memory ReadFault (which r Memory names o o2 gives) (λ f. cc) (λ f. cc) (same ReadFault found));
-  write = λ found. absurd (other_fault r Memory WriteFault (which r Memory names o o2 gives) (λ f. cc) (λ f. cc) (same WriteFault found));
+  read = λ found. absurd (other_fault r Memory ReadFault (which r Memory names o o2 gives) (λ f. cc) (λ f. cc)
+      (same ReadFault found));
+  write = λ found. absurd (other_fault r Memory WriteFault (which r Memory names o o2 gives) (λ f. cc) (λ f. cc)
+      (same WriteFault found));
   broke = λ found. by (cause (same DiskFault found));
 }
   where
@@ -30,7 +34,8 @@ back_causes {T} q r names o o2 out err d d2 is low cause gives = record {
     by (inr rose) = rose
 
 -- the commit failed
-pub commit_causes : {T X D : Type 0} (faults : D → ℕ) (a b : D) (q : Result T StepFault) (r : Result X StepFault) (fault : StepFault) (out err : ℕ) → q ≡ Err fault → r ≡ Err fault → ChangesDisk faults a b q
+pub commit_causes : {T X D : Type 0} (faults : D → ℕ) (a b : D) (q : Result T StepFault) (r : Result X StepFault)
+    (fault : StepFault) (out err : ℕ) → q ≡ Err fault → r ≡ Err fault → ChangesDisk faults a b q
     → StepCauses r (counts 0 out err (faults a)) (counts 0 out err (faults b))
 commit_causes {T} {X} {D} faults a b q r fault out err was is changes = record {
   input_later = omega arith;

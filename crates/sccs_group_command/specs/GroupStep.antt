@@ -1,5 +1,7 @@
--- The step of a group (own): delta's step on each entry, in the view that those before it left, as one step of all their names.
-use Rattle.std.specs.Prelude.{◌≡◌, ◌⊎◌, true, nat_lt, ℕ, Bool, List, [], ◌∷◌, ◌++◌, length, codes, flat_map, map, None, is_some, Result, Ok, Err, if◌then◌else◌}
+-- The step of a group (own): delta's step on each entry, in the view that those before it left, as one step of all
+-- their names.
+use Rattle.std.specs.Prelude.{◌≡◌, ◌⊎◌, true, nat_lt, ℕ, Bool, List, [], ◌∷◌, ◌++◌, length, codes, flat_map, map, None}
+use Rattle.std.specs.Prelude.{is_some, Result, Ok, Err, if◌then◌else◌}
 use Rattle.std.specs.List.{AllByRecursion}
 use Rattle.sccs_base.specs.Name.{is_sfile_name}
 use Rattle.sccs_sid.specs.Reading.{is_empty}
@@ -24,7 +26,8 @@ names_of entries = map (λ (e : GroupEntry). e.name) entries
 -- what delta's step on the name of an entry does in a view
 unfoldable pub entry_outcome : Stamp → View → GroupEntry → Outcome
 entry_outcome stamp v e =
-    if is_sfile_name e.name then locking_step (delta_change e.words stamp).outcome e.name e.script [] (look v e.name) else Err BadName
+    if is_sfile_name e.name then locking_step (delta_change e.words stamp).outcome e.name e.script [] (look v e.name)
+    else Err BadName
 
 -- An entry that is refused.
 pub record RefusedEntry : Type 0 where
@@ -47,7 +50,8 @@ go_on n (Err refusal) rest = Err (record { name = n; refusal = refusal })
 -- the steps of entries, each in the view that those before it left
 abbrev pub entry_steps : Stamp → View → List GroupEntry → EntrySteps
 entry_steps stamp v [] = Ok []
-entry_steps stamp v (e ∷ entries) = go_on e.name (entry_outcome stamp v e) (λ effect. entry_steps stamp (moved v e.name effect.new) entries)
+entry_steps stamp v (e ∷ entries) = go_on e.name (entry_outcome stamp v e) (λ effect. entry_steps stamp
+    (moved v e.name effect.new) entries)
 
 -- ---- one step of all
 
@@ -80,7 +84,8 @@ joined names (Err e) = refused_step names e.name e.refusal
 -- The step of a group: it is refused while a group is pending, or where one of its entries is.
 abbrev pub group_step : Stamp → View → List GroupEntry → NamedStep
 group_step stamp v entries =
-    if is_some (v intent_file) then refused_step (names_of entries) (codes "-") GroupPending else joined (names_of entries) (entry_steps stamp v entries)
+    if is_some (v intent_file) then refused_step (names_of entries) (codes "-") GroupPending
+    else joined (names_of entries) (entry_steps stamp v entries)
 
 -- ---- over any disk
 
@@ -99,4 +104,5 @@ CouldBeMade ts = AllByRecursion (λ (t : NamedStep). could_entry (Ok t.effect) �
 -- the step of a group that may come: of entries together, or one that is refused by a check
 abbrev pub CouldBeGroup : NamedStep → Type 0
 CouldBeGroup t = ((ts : List NamedStep) × CouldBeMade ts × (t ≡ joint_step ts))
-    ⊎ ((names : List (List ℕ)) × (n : List ℕ) × (refusal : Refusal) × (has_number group_checks (number_of refusal) ≡ true) × (t ≡ refused_step names n refusal))
+    ⊎ ((names : List (List ℕ)) × (n : List ℕ) × (refusal : Refusal) × (has_number group_checks (number_of refusal)
+    ≡ true) × (t ≡ refused_step names n refusal))

@@ -1,5 +1,6 @@
 -- The list of steps of a group: the step of the entries that its input is, and what a call says that follows it.
-use Rattle.std.specs.Prelude.{◌≡◌, ◌⊎◌, ℕ, nat_lt, is_some, true, false, List, [], ◌∷◌, ◌++◌, length, map, codes, decimal, if◌then◌else◌, Option, Result, Ok, Err}
+use Rattle.std.specs.Prelude.{◌≡◌, ◌⊎◌, ℕ, nat_lt, is_some, true, false, List, [], ◌∷◌, ◌++◌, length, map, codes}
+use Rattle.std.specs.Prelude.{decimal, if◌then◌else◌, Option, Result, Ok, Err}
 use Rattle.sccs_base.specs.Constants.{file_limit}
 use Rattle.sccs_base.specs.Cut.{text_of}
 use Rattle.sccs_base.specs.Name.{is_sfile_name}
@@ -53,13 +54,21 @@ parts_by names (Err e) = refused_parts names e.refusal
 -- the parts of a group's step: that of each entry
 abbrev pub group_parts : Stamp → View → List GroupEntry → List NamedStep
 group_parts stamp v entries =
-    if is_some (v intent_file) then refused_parts (names_of entries) GroupPending else parts_by (names_of entries) (entry_steps stamp v entries)
+    if is_some (v intent_file) then refused_parts (names_of entries) GroupPending else parts_by (names_of entries)
+    (entry_steps stamp v entries)
 
 -- the one step of all entries; it writes a plan
 abbrev pub entries_step_list : Stamp → List GroupEntry → StepLists
 entries_step_list stamp entries = λ folder i.
     step_list_of
-    (record { by = group_action; steps = group_step stamp (view_in folder) entries ∷ []; parts = group_parts stamp (view_in folder) entries; finishes = false; plans = true } ∷ [])
+    (record {
+      by = group_action;
+      steps = group_step stamp (view_in folder) entries ∷ [];
+      parts =
+          group_parts stamp (view_in folder) entries;
+      finishes = false;
+      plans = true;
+    } ∷ [])
     (group_step stamp (view_in folder) entries).effect.status
 
 -- ---- the input
@@ -75,7 +84,8 @@ read_step_list stamp (Err number) = saying [] (bad_line number) 1
 -- the group that an input is; one past the limit is refused
 abbrev pub group_on : Stamp → List ℕ → StepLists
 group_on stamp input =
-    if nat_lt file_limit (length input) then saying [] (refusal_line (codes "-") TooLong) 1 else read_step_list stamp (group_of (text_of input))
+    if nat_lt file_limit (length input) then saying [] (refusal_line (codes "-") TooLong) 1 else read_step_list stamp
+    (group_of (text_of input))
 
 abbrev pub group_step_list : Stamp → StepLists
 group_step_list stamp = λ folder i. group_on stamp i folder i
@@ -99,10 +109,12 @@ BegunEntries ts = (t : NamedStep) × (ts ≡ t ∷ []) × CouldBeGroup t
 
 -- entries, a line that is none, or an input that was refused
 abbrev pub WholeGroup : ℕ → List NamedStep → Type 0
-WholeGroup status ts = WholeEntries status ts ⊎ (((number : ℕ) × WholeSaid [] (bad_line number) 1 status ts) ⊎ WholeSaid [] (refusal_line (codes "-") TooLong) 1 status ts)
+WholeGroup status ts = WholeEntries status ts ⊎ (((number : ℕ) × WholeSaid [] (bad_line number) 1 status ts)
+    ⊎ WholeSaid [] (refusal_line (codes "-") TooLong) 1 status ts)
 
 abbrev pub BegunGroup : List NamedStep → Type 0
-BegunGroup ts = BegunEntries ts ⊎ (((number : ℕ) × BegunSaid [] (bad_line number) ts) ⊎ BegunSaid [] (refusal_line (codes "-") TooLong) ts)
+BegunGroup ts = BegunEntries ts ⊎ (((number : ℕ) × BegunSaid [] (bad_line number) ts)
+    ⊎ BegunSaid [] (refusal_line (codes "-") TooLong) ts)
 
 -- ---- calls
 
@@ -115,11 +127,13 @@ SaysBad bad.Memory r err err2 = (r ≡ Err ends.Memory) × (err2 ≡ err)
 
 -- a call that makes the group of entries
 abbrev pub RunsEntries : Stamp → List GroupEntry → Result ℕ Fault → Setting → Setting → Type 0
-RunsEntries stamp entries r s t = RunsStepList (entries_step_list stamp entries) (λ i. ArePlain (names_of entries)) WholeEntries BegunEntries r s t
+RunsEntries stamp entries r s t = RunsStepList (entries_step_list stamp entries) (λ i. ArePlain (names_of entries))
+    WholeEntries BegunEntries r s t
 
 -- a call that makes the group that lines are
 abbrev pub RunsLines : Stamp → Result (List GroupEntry) ℕ → Result ℕ Fault → Setting → Setting → Type 0
-RunsLines stamp read r s t = RunsStepList (read_step_list stamp read) (λ i. HasPlainNames read) WholeGroup BegunGroup r s t
+RunsLines stamp read r s t = RunsStepList (read_step_list stamp read) (λ i. HasPlainNames read) WholeGroup BegunGroup r
+    s t
 
 -- a call that makes the group that the input is
 abbrev pub RunsGroup : Stamp → Result ℕ Fault → Setting → Setting → Type 0

@@ -1,5 +1,7 @@
--- The input of a group (own): each entry is a line `@ W I`, then W lines with one word each of a delta command, then I lines of its script.
-use Rattle.std.specs.Prelude.{◌≡◌, ℕ, zero, suc, ◌+◌, ◌&&◌, not, nat_lt, if◌then◌else◌, Bool, List, [], ◌∷◌, ◌++◌, length, codes, Option, None, Some, Result, Ok, Err}
+-- The input of a group (own): each entry is a line `@ W I`, then W lines with one word each of a delta command, then I
+-- lines of its script.
+use Rattle.std.specs.Prelude.{◌≡◌, ℕ, zero, suc, ◌+◌, ◌&&◌, not, nat_lt, if◌then◌else◌, Bool, List, [], ◌∷◌, ◌++◌}
+use Rattle.std.specs.Prelude.{length, codes, Option, None, Some, Result, Ok, Err}
 use Rattle.std.specs.List.{list_any}
 use Rattle.std.specs.Str.{bytes_eq}
 use Rattle.sccs_sid.specs.Reading.{only}
@@ -32,7 +34,8 @@ Found = GroupEntry × ℕ
 
 -- the entry that begins so, with its words and its script in the lines that follow
 abbrev pub entry_with : Counts → List (List ℕ) → Option GroupEntry
-entry_with counts rest = if has_own counts rest then entry_by (meaning (words_in counts rest)) (input_in counts rest) else None
+entry_with counts rest = if has_own counts rest then entry_by (meaning (words_in counts rest)) (input_in counts rest)
+    else None
 
 -- whether some entry has the name
 abbrev pub has_name : List GroupEntry → List ℕ → Bool
@@ -50,7 +53,8 @@ entry_at entries line rest = do
   only (fits_behind entries entry) (entry, counts.words + counts.lines)
 
 -- one entry more, and then what is made of the lines behind it; or the number of its first line
-abbrev pub go_on : List GroupEntry → ℕ → Option Found → (List GroupEntry → ℕ → Result (List GroupEntry) ℕ) → Result (List GroupEntry) ℕ
+abbrev pub go_on : List GroupEntry → ℕ → Option Found → (List GroupEntry → ℕ → Result (List GroupEntry) ℕ)
+    → Result (List GroupEntry) ℕ
 go_on entries number None rest = Err number
 go_on entries number (Some found) rest = rest (entries ++ found.0 ∷ []) found.1
 
@@ -62,7 +66,8 @@ some_of (e ∷ entries) = Ok (e ∷ entries)
 -- the entries of lines from this number on, behind others and behind so many lines that are passed over
 abbrev pub group_from : ℕ → ℕ → List GroupEntry → List (List ℕ) → Result (List GroupEntry) ℕ
 group_from skip number entries [] = some_of entries
-group_from zero number entries (line ∷ lines) = go_on entries number (entry_at entries line lines) (λ all own. group_from own (number + 1) all lines)
+group_from zero number entries (line ∷ lines) = go_on entries number (entry_at entries line lines)
+    (λ all own. group_from own (number + 1) all lines)
 group_from (suc skip) number entries (line ∷ lines) = group_from skip (number + 1) entries lines
 
 -- the entries of a group's lines, or the number of the first line of the first that is none

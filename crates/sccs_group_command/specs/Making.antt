@@ -1,5 +1,6 @@
 -- What making a group answers and leaves.
-use Rattle.std.specs.Prelude.{◌≡◌, ◌≢◌, ◌⊎◌, ◌<◌, ◌≤◌, ◌||◌, nat_lt, length, IsSome, ℕ, Bool, true, false, List, map, flat_map, Option, None, Result, Ok, Err}
+use Rattle.std.specs.Prelude.{◌≡◌, ◌≢◌, ◌⊎◌, ◌<◌, ◌≤◌, ◌||◌, nat_lt, length, IsSome, ℕ, Bool, true, false, List, map}
+use Rattle.std.specs.Prelude.{flat_map, Option, None, Result, Ok, Err}
 use Rattle.std.specs.List.{AllByRecursion, list_any}
 use Rattle.std.specs.Str.{bytes_eq}
 use Rattle.sccs_base.specs.Stream.{GivesOk, GivesSome, Rose}
@@ -33,7 +34,8 @@ use Rattle.sccs_group.specs.Halfway.{first_placed}
 use Rattle.sccs_group.specs.Members.{completed}
 use Rattle.sccs_group.specs.declared.members.Member.{Member}
 use Rattle.sccs_group_command.specs.GroupStep.{CouldBeMade, group_checks, headed, refused_step}
-use Rattle.sccs_group_command.specs.Preparing.{AreDifferent, Between, IsFreeSound, IsGivenBack, IsNamed, LosesOfSound, all_abandoned, is_any_left, is_any_working, made_names, sfiles_of}
+use Rattle.sccs_group_command.specs.Preparing.{AreDifferent, Between, IsFreeSound, IsGivenBack, IsNamed, LosesOfSound}
+use Rattle.sccs_group_command.specs.Preparing.{all_abandoned, is_any_left, is_any_working, made_names, sfiles_of}
 use Rattle.sccs_group_command.specs.declared.prepared_entries.NamedFault.{NamedFault}
 use Rattle.sccs_group_command.specs.declared.joining.Joint.{Joint}
 use Rattle.sccs_group_command.specs.declared.prepared_entries.PreparedEntry.{PreparedEntry}
@@ -53,7 +55,11 @@ removes Replace = false
 removes Remove = true
 
 abbrev pub member_of : PreparedEntry → Member
-member_of x = record { entry = record { name = x.name; fate = fate_of x.prepared.new_p }; removes_g = removes x.prepared.new_g }
+member_of x = record {
+  entry = record { name = x.name; fate = fate_of x.prepared.new_p };
+  removes_g =
+      removes x.prepared.new_g;
+}
 
 -- whether there are several entries
 abbrev pub several : List PreparedEntry → Bool
@@ -74,13 +80,15 @@ pub record IsJoint (made : List PreparedEntry) (joint : Joint) : Type 0 where
 
 -- ---- the commit
 
--- working files of names and their z-files, the plan and the intent: what a group may leave behind where the disk failed
+-- working files of names and their z-files, the plan and the intent: what a group may leave behind where the disk
+-- failed
 abbrev pub is_group_left : List (List ℕ) → List ℕ → Bool
 is_group_left names k = is_any_left names k || (bytes_eq plan_file k || bytes_eq intent_file k)
 
 -- some first of the members' new files are in their places
 abbrev pub PlacesSome : List (List ℕ) → List Member → Option View → Option View → Type 0
-PlacesSome names members old new = (whole : ℕ) × (some : ℕ) × Moves (is_group_left names) (first_placed whole some members) old new
+PlacesSome names members old new = (whole : ℕ) × (some : ℕ) × Moves (is_group_left names)
+    (first_placed whole some members) old new
 
 -- what committing members of these names answers and leaves
 abbrev pub CommitsJoint : Result (Unit {0}) StepFault → List (List ℕ) → List Member → Option View → Option View → Type 0
@@ -101,10 +109,13 @@ all_made made v = completed (map member_of made) (announced (map member_of made)
 
 -- what committing and reporting entries answers and leaves
 abbrev pub Finishes : Result (Unit {0}) StepFault → List PreparedEntry → World → World → Type 0
-Finishes (Ok done) made a b = Becomes (all_made made) a.view b.view × GivesOk a.out b.out (reports_in (several made) made) × GivesOk a.err b.err (messages_in made)
-Finishes (Err WriteFault) made a b = Becomes (all_made made) a.view b.view × GivesSome a.out b.out (reports_in (several made) made) × GivesSome a.err b.err (messages_in made)
+Finishes (Ok done) made a b = Becomes (all_made made) a.view b.view × GivesOk a.out b.out
+    (reports_in (several made) made) × GivesOk a.err b.err (messages_in made)
+Finishes (Err WriteFault) made a b = Becomes (all_made made) a.view b.view × GivesSome a.out b.out
+    (reports_in (several made) made) × GivesSome a.err b.err (messages_in made)
 Finishes (Err Memory) made a b =
-    (Becomes (all_abandoned (made_names made)) a.view b.view ⊎ Becomes (λ v. all_abandoned (made_names made) (without_name plan_file v)) a.view b.view) × IsSilent a b
+    (Becomes (all_abandoned (made_names made)) a.view b.view ⊎ Becomes (λ v. all_abandoned (made_names made)
+    (without_name plan_file v)) a.view b.view) × IsSilent a b
 Finishes (Err DiskFault) made a b = PlacesSome (made_names made) (map member_of made) a.view b.view × IsSilent a b
 Finishes (Err ReadFault) made a b = ⊥
 Finishes (Err (Refused refusal)) made a b = ⊥
@@ -154,14 +165,18 @@ pub record IsHalfMade (names : List (List ℕ)) (t : NamedStep) (u v : View) : T
 
 -- what a group that is made leaves
 abbrev pub MadeMeets : List (List ℕ) → (View → NamedStep) → World → World → Type 0
-MadeMeets own step a b = Between (λ u v. ((step u).effect.status ≡ 0) × IsMade own (step u) u v × IsSaid (step u).effect a b) a.view b.view
+MadeMeets own step a b = Between (λ u v. ((step u).effect.status ≡ 0) × IsMade own (step u) u v
+    × IsSaid (step u).effect a b) a.view b.view
 
 -- what a group of names leaves that ended at one of them; its working files are those of its own
 abbrev pub StopMeets : StepFault → List ℕ → List (List ℕ) → List (List ℕ) → (View → NamedStep) → World → World → Type 0
 StopMeets (Refused refusal) n names own step a b =
-    Between (λ u v. (step u ≡ refused_step names n refusal) × IsGivenBack (is_any_working own) u v) a.view b.view × IsSilent a b
-StopMeets Memory n names own step a b = Between (λ u v. IsGivenBack (is_group_working own) u v) a.view b.view × IsSilent a b
-StopMeets WriteFault n names own step a b = Between (λ u v. IsMade own (step u) u v × IsCut (step u).effect a b) a.view b.view
+    Between (λ u v. (step u ≡ refused_step names n refusal) × IsGivenBack (is_any_working own) u v) a.view b.view
+    × IsSilent a b
+StopMeets Memory n names own step a b = Between (λ u v. IsGivenBack (is_group_working own) u v) a.view b.view
+    × IsSilent a b
+StopMeets WriteFault n names own step a b = Between (λ u v. IsMade own (step u) u v × IsCut (step u).effect a b) a.view
+    b.view
 StopMeets DiskFault n names own step a b = Between (λ u v. IsHalfMade own (step u) u v) a.view b.view × IsSilent a b
 StopMeets ReadFault n names own step a b = ⊥
 
@@ -176,7 +191,8 @@ MeetsGroup (Err stop) names step a b = StopMeets stop.fault stop.name names (sfi
 abbrev pub CommitCrashPoints : Result (Unit {0}) StepFault → List PreparedEntry → Told → Told → Type 0
 CommitCrashPoints (Ok done) made old new = GroupEnds (map member_of made) old new
 CommitCrashPoints (Err WriteFault) made old new = GroupEnds (map member_of made) old new
-CommitCrashPoints (Err DiskFault) made old new = GroupStops (map member_of made) old new ⊎ LosesOfSound (made_names made) old new
+CommitCrashPoints (Err DiskFault) made old new = GroupStops (map member_of made) old new
+    ⊎ LosesOfSound (made_names made) old new
 CommitCrashPoints (Err Memory) made old new = LosesOfSound (made_names made) old new
 CommitCrashPoints (Err ReadFault) made old new = ⊥
 CommitCrashPoints (Err (Refused refusal)) made old new = ⊥
@@ -203,16 +219,19 @@ pub record HoldsNames (m : Model) (past : List Model) (new : Told) : Type 0 wher
   pub is : new ≡ Tells (newest added m) (earlier added m past)
   pub each : Each (Allows (HoldsFrom m)) added m
 
--- from a calm disk on, where names are sound, a stop leaves the group whole or not at all, and the names of an intent held
+-- from a calm disk on, where names are sound, a stop leaves the group whole or not at all, and the names of an intent
+-- held
 abbrev pub GroupCrashPoints : Result (Unit {0}) NamedFault → List (List ℕ) → (View → NamedStep) → Told → Told → Type 0
-GroupCrashPoints r names step old new = (m : Model) (past : List Model) → old ≡ Tells m past → IsCalm m → AllByRecursion (IsFreeSound (view_of m)) names
+GroupCrashPoints r names step old new = (m : Model) (past : List Model) → old ≡ Tells m past → IsCalm m
+    → AllByRecursion (IsFreeSound (view_of m)) names
     → EndsAt r (view_of m) (all_moved (view_of m) (moves_of (step (view_of m)))) m past new × HoldsNames m past new
 
 -- ---- other files
 
 -- the files of names, the plan and the intent
 abbrev pub is_own_of_names : List (List ℕ) → List ℕ → Bool
-is_own_of_names names k = bytes_eq plan_file k || (bytes_eq intent_file k || list_any (λ (n : List ℕ). is_own n k) names)
+is_own_of_names names k = bytes_eq plan_file k || (bytes_eq intent_file k || list_any (λ (n : List ℕ). is_own n k)
+    names)
 
 -- ---- causes
 
@@ -227,7 +246,8 @@ pub record GroupCauses (r : Result (Unit {0}) NamedFault) (out out2 err err2 dis
 
 -- ---- over any disk
 
--- what is written on err by a group that ended: nothing, but warnings that may come where writing failed; a refusal is one of these
+-- what is written on err by a group that ended: nothing, but warnings that may come where writing failed; a refusal is
+-- one of these
 abbrev pub StopSpeaks : StepFault → Option (List ℕ) → Option (List ℕ) → Type 0
 StopSpeaks (Refused refusal) err err2 = (has_number group_checks (number_of refusal) ≡ true) × (err2 ≡ err)
 StopSpeaks WriteFault err err2 = (ts : List NamedStep) × CouldBeMade ts × GivesSome err err2 (err_of ts)

@@ -1,5 +1,6 @@
 -- What preparing the entries of a group answers and leaves.
-use Rattle.std.specs.Prelude.{◌≡◌, ◌≢◌, ◌<◌, ◌≤◌, ◌&&◌, length, ◌⊎◌, ℕ, Bool, false, true, List, [], ◌∷◌, ◌++◌, drop, map, Option, None, Some, Result, Ok, Err}
+use Rattle.std.specs.Prelude.{◌≡◌, ◌≢◌, ◌<◌, ◌≤◌, ◌&&◌, length, ◌⊎◌, ℕ, Bool, false, true, List, [], ◌∷◌, ◌++◌, drop}
+use Rattle.std.specs.Prelude.{map, Option, None, Some, Result, Ok, Err}
 use Rattle.std.specs.List.{AllByRecursion, filter, list_any}
 use Rattle.std.specs.Str.{bytes_eq}
 use Rattle.sccs_base.specs.Name.{IsName, IsSFileName, is_sfile_name, z_file}
@@ -46,7 +47,8 @@ pub record AreGrouped (entries : List GroupEntry) : Type 0 where
   pub some : 0 < length entries
   pub few : length entries ≤ 1000
 
--- The name of a g-file is none that another file of an s-file may have, but for an l-file, nor that of the plan or the intent.
+-- The name of a g-file is none that another file of an s-file may have, but for an l-file, nor that of the plan or the
+-- intent.
 pub record IsPlainName (n : List ℕ) : Type 0 where
   pub kept : is_kept (drop 2 n) ≡ false
   pub y_free : begins_by_letter 121 (drop 2 n) ≡ false
@@ -93,17 +95,25 @@ IsFreeSound v n = IsNamed n → v (z_file n) ≡ None → IsSound n v
 
 -- from a calm disk on, where names are sound, a stop leaves every s-file and p-file, and the disk is calm
 abbrev pub LosesNothing : List (List ℕ) → Told → Told → Type 0
-LosesNothing names old new = (m : Model) (past : List Model) → old ≡ Tells m past → IsCalm m → AllByRecursion (IsFreeSound (view_of m)) names → EndsBefore (view_of m) m past new
+LosesNothing names old new = (m : Model) (past : List Model) → old ≡ Tells m past → IsCalm m
+    → AllByRecursion (IsFreeSound (view_of m)) names → EndsBefore (view_of m) m past new
 
 -- the same of names that may be locked
 abbrev pub LosesOfSound : List (List ℕ) → Told → Told → Type 0
-LosesOfSound names old new = (m : Model) (past : List Model) → old ≡ Tells m past → IsCalm m → AllByRecursion (λ (n : List ℕ). IsSound n (view_of m)) names → EndsBefore (view_of m) m past new
+LosesOfSound names old new = (m : Model) (past : List Model) → old ≡ Tells m past → IsCalm m
+    → AllByRecursion (λ (n : List ℕ). IsSound n (view_of m)) names → EndsBefore (view_of m) m past new
 
 -- ---- one entry
 
 -- what is prepared, as the effect of a step in the view in which it is
 abbrev pub effect_by : View → List ℕ → Prepared → StepEffect
-effect_by v n p = record { new = Some (files_after n (plan_of p) v); text = []; out = p.report; err = p.message; status = 0 }
+effect_by v n p = record {
+  new = Some (files_after n (plan_of p) v);
+  text = [];
+  out = p.report;
+  err = p.message;
+  status = 0;
+}
 
 -- What is prepared of a name that wasn't locked in u.
 pub record IsHeldEntry (u v : View) (n : List ℕ) (p : Prepared) : Type 0 where
@@ -134,10 +144,12 @@ pub record IsGivenBack (working : List ℕ → Bool) (u v : View) : Type 0 where
   pub view : Alike working v u
   pub cleared : (k : List ℕ) → working k ≡ true → (v k ≡ None) ⊎ (v k ≡ u k)
 
--- what giving up a name answers and leaves: the working files and the z-file are gone, and the answer is the fault; or the disk
+-- what giving up a name answers and leaves: the working files and the z-file are gone, and the answer is the fault; or
+-- the disk
 -- failed
 abbrev pub GivesBack : StepFault → StepFault → List ℕ → Option View → Option View → Type 0
-GivesBack r fault n old new = ((r ≡ fault) × (fault ≢ DiskFault) × Becomes (abandoned n) old new) ⊎ ((r ≡ DiskFault) × Moves (is_left n) (λ v. v) old new)
+GivesBack r fault n old new = ((r ≡ fault) × (fault ≢ DiskFault) × Becomes (abandoned n) old new)
+    ⊎ ((r ≡ DiskFault) × Moves (is_left n) (λ v. v) old new)
 
 -- what preparing an entry answers and leaves
 abbrev pub PreparesEntry : Result Prepared StepFault → List ℕ → Outcome → View → View → Type 0
@@ -151,8 +163,10 @@ PreparesEntry (Err WriteFault) n o u v = ⊥
 -- ---- all entries
 
 -- what putting an entry behind others that are prepared answers and leaves
-abbrev pub AddsEntry : Result (Unit {0}) StepFault → List ℕ → Outcome → List PreparedEntry → List PreparedEntry → View → View → Type 0
-AddsEntry (Ok done) n o made all u v = (p : Prepared) × (all ≡ made ++ record { name = n; prepared = p } ∷ []) × IsPreparedEntry u v n p o
+abbrev pub AddsEntry : Result (Unit {0}) StepFault → List ℕ → Outcome → List PreparedEntry → List PreparedEntry → View
+    → View → Type 0
+AddsEntry (Ok done) n o made all u v = (p : Prepared) × (all ≡ made ++ record { name = n; prepared = p } ∷ [])
+    × IsPreparedEntry u v n p o
 AddsEntry (Err fault) n o made all u v = PreparesEntry (Err fault) n o u v
 
 -- An entry of this name, whose files are firm, is put behind others.
@@ -169,9 +183,11 @@ all_abandoned (n ∷ names) v = all_abandoned names (abandoned n v)
 -- what giving up names answers and leaves
 abbrev pub GivesAllBack : StepFault → StepFault → List (List ℕ) → Option View → Option View → Type 0
 GivesAllBack r fault names old new =
-    ((r ≡ fault) × (fault ≢ DiskFault) × Becomes (all_abandoned names) old new) ⊎ ((r ≡ DiskFault) × Moves (is_any_left names) (λ v. v) old new)
+    ((r ≡ fault) × (fault ≢ DiskFault) × Becomes (all_abandoned names) old new)
+    ⊎ ((r ≡ DiskFault) × Moves (is_any_left names) (λ v. v) old new)
 
--- what the step of an entry makes that is prepared in a view: the l-file stays as it is in the view in which the step is made
+-- what the step of an entry makes that is prepared in a view: the l-file stays as it is in the view in which the step
+-- is made
 abbrev pub effect_in : View → View → PreparedEntry → StepEffect
 effect_in v t x = effect_with_l (t (l_file x.name)) (effect_by v x.name x.prepared)
 
@@ -181,7 +197,8 @@ files_in v t x = files_with_l (t (l_file x.name)) (files_after x.name (plan_of x
 -- the steps of entries that are prepared in a view, each in the view that those before it left
 abbrev pub steps_in : View → View → List PreparedEntry → List NamedStep
 steps_in v t [] = []
-steps_in v t (x ∷ made) = named_step x.name (Ok (effect_in v t x)) ∷ steps_in v (moved t x.name (Some (files_in v t x))) made
+steps_in v t (x ∷ made) = named_step x.name (Ok (effect_in v t x)) ∷ steps_in v (moved t x.name (Some (files_in v t x)))
+    made
 
 -- what is prepared of entries is firm
 abbrev pub AreFirm : List PreparedEntry → Told → Told → Type 0
@@ -201,7 +218,8 @@ pub record AreAllPrepared (u v : View) (names : List (List ℕ)) (made : List Pr
 
 -- how preparing ended at a name
 abbrev pub GivesUpAt : StepFault → List ℕ → List (List ℕ) → EntrySteps → View → View → Type 0
-GivesUpAt (Refused refusal) n names steps u v = (steps ≡ Err (record { name = n; refusal = refusal })) × IsGivenBack (is_any_working names) u v
+GivesUpAt (Refused refusal) n names steps u v = (steps ≡ Err (record { name = n; refusal = refusal }))
+    × IsGivenBack (is_any_working names) u v
 GivesUpAt Memory n names steps u v = IsGivenBack (is_any_working names) u v
 GivesUpAt DiskFault n names steps u v = Alike (is_any_left names) v u
 GivesUpAt ReadFault n names steps u v = ⊥

@@ -13,7 +13,9 @@ ghost use Rattle.sccs_steps.specs.Actions.{RefusesWithin};
 ghost use Rattle.sccs_steps.specs.Calls.{world};
 ghost use Rattle.sccs_steps.specs.Causes.{StepCauses, counts};
 ghost use Rattle.sccs_group_command.specs.GroupStep.{group_step, names_of};
-ghost use Rattle.sccs_group_command.specs.Making.{ChecksNone, CommitCrashPoints, CommitsJoint, Finishes, GroupCauses, GroupCrashPoints, IsJoint, MayCommit, MeetsGroup, SpeaksGroup, is_own_of_names, member_of};
+ghost use Rattle.sccs_group_command.specs.Making.{ChecksNone, CommitCrashPoints, CommitsJoint, Finishes, GroupCauses};
+ghost use Rattle.sccs_group_command.specs.Making.{GroupCrashPoints, IsJoint, MayCommit, MeetsGroup, SpeaksGroup};
+ghost use Rattle.sccs_group_command.specs.Making.{is_own_of_names, member_of};
 ghost use Rattle.sccs_group_command.specs.Preparing.{AreGrouped, ArePlain, made_names};
 
 use crate::entries::GroupEntry;
@@ -69,7 +71,8 @@ fn commit_joint<D: Disk>(
     requires may { MayCommit made.now }
     ensures others { KeepsOthers (is_own_of_group (map member_of made.now)) (D.told disk.old) (D.told disk.new) }
     ensures crash_points { CommitCrashPoints result made.now (D.told disk.old) (D.told disk.new) }
-    ensures told { CommitsJoint result (made_names made.now) joint.now.members (seen (D.told disk.old)) (seen (D.told disk.new)) }
+    ensures told { CommitsJoint result (made_names made.now) joint.now.members (seen (D.told disk.old))
+        (seen (D.told disk.new)) }
     ensures causes { ChangesDisk D.faults disk.old disk.new result }
 {
     match commit_group(alloc, &joint.members, disk) {
@@ -92,8 +95,10 @@ fn finish_joint<O: Sink, E: Sink, D: Disk>(
     requires may { MayCommit made.now }
     ensures others { KeepsOthers (is_own_of_group (map member_of made.now)) (D.told disk.old) (D.told disk.new) }
     ensures crash_points { CommitCrashPoints result made.now (D.told disk.old) (D.told disk.new) }
-    ensures told { Finishes result made.now (world (seen (D.told disk.old)) (O.given out.old) (E.given err.old)) (world (seen (D.told disk.new)) (O.given out.new) (E.given err.new)) }
-    ensures causes { StepCauses result (counts 0 (O.faults out.old) (E.faults err.old) (D.faults disk.old)) (counts 0 (O.faults out.new) (E.faults err.new) (D.faults disk.new)) }
+    ensures told { Finishes result made.now (world (seen (D.told disk.old)) (O.given out.old) (E.given err.old))
+        (world (seen (D.told disk.new)) (O.given out.new) (E.given err.new)) }
+    ensures causes { StepCauses result (counts 0 (O.faults out.old) (E.faults err.old) (D.faults disk.old))
+        (counts 0 (O.faults out.new) (E.faults err.new) (D.faults disk.new)) }
 {
     match commit_joint(alloc, joint, made, disk) {
         Ok(()) => report(&joint.said, out, err),
@@ -112,8 +117,10 @@ fn finish<O: Sink, E: Sink, D: Disk>(
     requires { MayCommit made.now }
     ensures others { KeepsOthers (is_own_of_group (map member_of made.now)) (D.told disk.old) (D.told disk.new) }
     ensures crash_points { CommitCrashPoints result made.now (D.told disk.old) (D.told disk.new) }
-    ensures told { Finishes result made.now (world (seen (D.told disk.old)) (O.given out.old) (E.given err.old)) (world (seen (D.told disk.new)) (O.given out.new) (E.given err.new)) }
-    ensures causes { StepCauses result (counts 0 (O.faults out.old) (E.faults err.old) (D.faults disk.old)) (counts 0 (O.faults out.new) (E.faults err.new) (D.faults disk.new)) }
+    ensures told { Finishes result made.now (world (seen (D.told disk.old)) (O.given out.old) (E.given err.old))
+        (world (seen (D.told disk.new)) (O.given out.new) (E.given err.new)) }
+    ensures causes { StepCauses result (counts 0 (O.faults out.old) (E.faults err.old) (D.faults disk.old))
+        (counts 0 (O.faults out.new) (E.faults err.new) (D.faults disk.new)) }
 {
     match joint_of(alloc, made) {
         Ok(joint) => finish_joint(alloc, &joint, made, out, err, disk),
@@ -135,11 +142,15 @@ fn make_free<O: Sink, E: Sink, D: Disk>(
     requires none { IfSome (seen (D.told disk.old)) (λ (v : View). v intent_file ≡ None) }
     ensures others { KeepsOthers (is_own_of_names (names_of entries.now)) (D.told disk.old) (D.told disk.new) }
     ensures unlocked { ArePlain (names_of entries.now) → BeginsUnlocked (D.told disk.old) (D.told disk.new) }
-    ensures crash_points { ArePlain (names_of entries.now) → GroupCrashPoints result (names_of entries.now) (λ (v : View). group_step stamp.now v entries.now) (D.told disk.old) (D.told disk.new) }
-    ensures told { ArePlain (names_of entries.now) → MeetsGroup result (names_of entries.now) (λ (v : View). group_step stamp.now v entries.now)
-        (world (seen (D.told disk.old)) (O.given out.old) (E.given err.old)) (world (seen (D.told disk.new)) (O.given out.new) (E.given err.new)) }
+    ensures crash_points { ArePlain (names_of entries.now) → GroupCrashPoints result (names_of entries.now)
+        (λ (v : View). group_step stamp.now v entries.now) (D.told disk.old) (D.told disk.new) }
+    ensures told { ArePlain (names_of entries.now) → MeetsGroup result (names_of entries.now)
+        (λ (v : View). group_step stamp.now v entries.now)
+        (world (seen (D.told disk.old)) (O.given out.old) (E.given err.old)) (world (seen (D.told disk.new))
+        (O.given out.new) (E.given err.new)) }
     ensures speaks { SpeaksGroup result (E.given err.old) (E.given err.new) }
-    ensures causes { GroupCauses result (O.faults out.old) (O.faults out.new) (E.faults err.old) (E.faults err.new) (D.faults disk.old) (D.faults disk.new) }
+    ensures causes { GroupCauses result (O.faults out.old) (O.faults out.new) (E.faults err.old) (E.faults err.new)
+        (D.faults disk.old) (D.faults disk.new) }
 {
     let made = prepare_all(alloc, stamp, entries, disk)?;
     match finish(alloc, made.items(), out, err, disk) {
@@ -166,11 +177,15 @@ pub fn make_group<O: Sink, E: Sink, D: Disk>(
     requires entries { AreGrouped entries.now }
     ensures others { KeepsOthers (is_own_of_names (names_of entries.now)) (D.told disk.old) (D.told disk.new) }
     ensures unlocked { ArePlain (names_of entries.now) → BeginsUnlocked (D.told disk.old) (D.told disk.new) }
-    ensures crash_points { ArePlain (names_of entries.now) → GroupCrashPoints result (names_of entries.now) (λ (v : View). group_step stamp.now v entries.now) (D.told disk.old) (D.told disk.new) }
-    ensures told { ArePlain (names_of entries.now) → MeetsGroup result (names_of entries.now) (λ (v : View). group_step stamp.now v entries.now)
-        (world (seen (D.told disk.old)) (O.given out.old) (E.given err.old)) (world (seen (D.told disk.new)) (O.given out.new) (E.given err.new)) }
+    ensures crash_points { ArePlain (names_of entries.now) → GroupCrashPoints result (names_of entries.now)
+        (λ (v : View). group_step stamp.now v entries.now) (D.told disk.old) (D.told disk.new) }
+    ensures told { ArePlain (names_of entries.now) → MeetsGroup result (names_of entries.now)
+        (λ (v : View). group_step stamp.now v entries.now)
+        (world (seen (D.told disk.old)) (O.given out.old) (E.given err.old)) (world (seen (D.told disk.new))
+        (O.given out.new) (E.given err.new)) }
     ensures speaks { SpeaksGroup result (E.given err.old) (E.given err.new) }
-    ensures causes { GroupCauses result (O.faults out.old) (O.faults out.new) (E.faults err.old) (E.faults err.new) (D.faults disk.old) (D.faults disk.new) }
+    ensures causes { GroupCauses result (O.faults out.old) (O.faults out.new) (E.faults err.old) (E.faults err.new)
+        (D.faults disk.old) (D.faults disk.new) }
 {
     match check_none(disk) {
         Ok(()) => make_free(alloc, stamp, entries, out, err, disk),

@@ -1,6 +1,7 @@
 ghost use Rattle.std.specs.Prelude.{◌≡◌, ◌++◌, map, IfOk, OnOk};
 ghost use Rattle.sccs_group_command.specs.GroupStep.{headed};
-ghost use Rattle.sccs_group_command.specs.Making.{IsJoint, fate_of, member_of, messages_in, removes, reports_in, several};
+ghost use Rattle.sccs_group_command.specs.Making.{IsJoint, fate_of, member_of, messages_in, removes, reports_in};
+ghost use Rattle.sccs_group_command.specs.Making.{several};
 
 use crate::prepared_entries::PreparedEntry;
 use sccs_base::{Bytes, Memory};
@@ -45,7 +46,8 @@ fn member_of(entry: &PreparedEntry) -> Member
 
 // adds the report of an entry, under its heading
 fn add_report(several: bool, entry: &PreparedEntry, report: &mut Vec<u8>) -> Result<(), Memory>
-    ensures { OnOk result (report.new.items ≡ report.old.items ++ headed several entry.now.name entry.now.prepared.report) }
+    ensures { OnOk result (report.new.items ≡ report.old.items ++ headed several entry.now.name
+        entry.now.prepared.report) }
 {
     let own = entry.prepared.report.bytes();
     if own.is_empty() {

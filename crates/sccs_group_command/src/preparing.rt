@@ -11,7 +11,10 @@ ghost use Rattle.sccs_sid.specs.Moment.{IsMoment};
 ghost use Rattle.sccs_sid.specs.declared.refusals.StepFault.TheVariants as step;
 ghost use Rattle.sccs_changes.specs.Changes.{CouldPrepare};
 ghost use Rattle.sccs_group_command.specs.GroupStep.{could_entry, entry_outcome, entry_steps, names_of};
-ghost use Rattle.sccs_group_command.specs.Preparing.{AddsEntry, AllCauses, AreDifferent, AreMade, ArePlain, Between, CouldAdd, CouldPrepareAll, GivesAllBack, GivesBack, IsAdded, IsFirmEntry, IsNamed, LosesNothing, LosesOfSound, PreparesAll, PreparesEntry, is_any_left, made_names};
+ghost use Rattle.sccs_group_command.specs.Preparing.{AddsEntry, AllCauses, AreDifferent, AreMade, ArePlain, Between};
+ghost use Rattle.sccs_group_command.specs.Preparing.{CouldAdd, CouldPrepareAll, GivesAllBack, GivesBack, IsAdded};
+ghost use Rattle.sccs_group_command.specs.Preparing.{IsFirmEntry, IsNamed, LosesNothing, LosesOfSound, PreparesAll};
+ghost use Rattle.sccs_group_command.specs.Preparing.{PreparesEntry, is_any_left, made_names};
 
 use crate::entries::GroupEntry;
 use crate::prepared_entries::{NamedFault, PreparedEntries, PreparedEntry};
@@ -29,7 +32,8 @@ fn give_up<D: Disk>(fault: StepFault, name: &Name, disk: &mut D) -> StepFault
     ensures gives_back { GivesBack result fault name.now (seen (D.told disk.old)) (seen (D.told disk.new)) }
     ensures touches { TouchesOnly (is_left name.now) (D.told disk.old) (D.told disk.new) }
     ensures later { D.faults disk.old ≤ D.faults disk.new }
-    ensures cause { result ≡ step.DiskFault → (fault ≡ step.DiskFault) × (D.faults disk.new ≡ D.faults disk.old) ⊎ Rose (D.faults disk.old) (D.faults disk.new) }
+    ensures cause { result ≡ step.DiskFault → (fault ≡ step.DiskFault) × (D.faults disk.new ≡ D.faults disk.old)
+        ⊎ Rose (D.faults disk.old) (D.faults disk.new) }
 {
     if let StepFault::DiskFault = fault {
         return fault;
@@ -49,7 +53,8 @@ pub fn prepare_entry<D: Disk>(
     disk: &mut D,
 ) -> Result<Prepared, StepFault>
     requires { IsMoment stamp.now.moment }
-    ensures told { Between (λ (u v : View). PreparesEntry result entry.now.name (entry_outcome stamp.now u entry.now) u v) (seen (D.told disk.old)) (seen (D.told disk.new)) }
+    ensures told { Between (λ (u v : View). PreparesEntry result entry.now.name (entry_outcome stamp.now u entry.now) u
+        v) (seen (D.told disk.old)) (seen (D.told disk.new)) }
     ensures firm { IfOk result (λ p. IsFirmEntry entry.now.name p (D.told disk.old) (D.told disk.new)) }
     ensures touches { TouchesOnly (is_left entry.now.name) (D.told disk.old) (D.told disk.new) }
     ensures before { LosesNothing (entry.now.name ∷ []) (D.told disk.old) (D.told disk.new) }
@@ -82,7 +87,8 @@ fn add_entry<D: Disk>(
     disk: &mut D,
 ) -> Result<(), StepFault>
     requires { IsMoment stamp.now.moment }
-    ensures told { Between (λ (u v : View). AddsEntry result entry.now.name (entry_outcome stamp.now u entry.now) made.old made.new u v) (seen (D.told disk.old)) (seen (D.told disk.new)) }
+    ensures told { Between (λ (u v : View). AddsEntry result entry.now.name (entry_outcome stamp.now u entry.now)
+        made.old made.new u v) (seen (D.told disk.old)) (seen (D.told disk.new)) }
     ensures added { OnOk result (IsAdded entry.now.name made.old made.new (D.told disk.old) (D.told disk.new)) }
     ensures same { OnErr result (made.new ≡ made.old) }
     ensures touches { TouchesOnly (is_left entry.now.name) (D.told disk.old) (D.told disk.new) }
@@ -102,11 +108,13 @@ fn add_entry<D: Disk>(
 /// that.
 pub fn abandon_all<D: Disk>(fault: StepFault, made: &[PreparedEntry], disk: &mut D) -> StepFault
     requires { AllByRecursion IsNamed (made_names made.now) }
-    ensures gives_back { GivesAllBack result fault (made_names made.now) (seen (D.told disk.old)) (seen (D.told disk.new)) }
+    ensures gives_back { GivesAllBack result fault (made_names made.now) (seen (D.told disk.old))
+        (seen (D.told disk.new)) }
     ensures touches { TouchesOnly (is_any_left (made_names made.now)) (D.told disk.old) (D.told disk.new) }
     ensures before { LosesOfSound (made_names made.now) (D.told disk.old) (D.told disk.new) }
     ensures later { D.faults disk.old ≤ D.faults disk.new }
-    ensures cause { result ≡ step.DiskFault → (fault ≡ step.DiskFault) × (D.faults disk.new ≡ D.faults disk.old) ⊎ Rose (D.faults disk.old) (D.faults disk.new) }
+    ensures cause { result ≡ step.DiskFault → (fault ≡ step.DiskFault) × (D.faults disk.new ≡ D.faults disk.old)
+        ⊎ Rose (D.faults disk.old) (D.faults disk.new) }
 {
     let mut fault = fault;
     for entry in made {
@@ -125,10 +133,12 @@ pub fn prepare_all<D: Disk>(
 ) -> Result<PreparedEntries, NamedFault>
     requires moment { IsMoment stamp.now.moment }
     requires different { AreDifferent (names_of entries.now) }
-    ensures told { ArePlain (names_of entries.now) → Between (λ (u v : View). PreparesAll result (names_of entries.now) (entry_steps stamp.now u entries.now) u v) (seen (D.told disk.old)) (seen (D.told disk.new)) }
+    ensures told { ArePlain (names_of entries.now) → Between (λ (u v : View). PreparesAll result (names_of entries.now)
+        (entry_steps stamp.now u entries.now) u v) (seen (D.told disk.old)) (seen (D.told disk.new)) }
     ensures made { IfOk result (λ made. AreMade made (names_of entries.now) (D.told disk.old) (D.told disk.new)) }
     ensures touches { TouchesOnly (is_any_left (names_of entries.now)) (D.told disk.old) (D.told disk.new) }
-    ensures before { ArePlain (names_of entries.now) → LosesNothing (names_of entries.now) (D.told disk.old) (D.told disk.new) }
+    ensures before { ArePlain (names_of entries.now) → LosesNothing (names_of entries.now) (D.told disk.old)
+        (D.told disk.new) }
     ensures speaks { CouldPrepareAll result }
     ensures causes { AllCauses D.faults disk.old disk.new result }
 {

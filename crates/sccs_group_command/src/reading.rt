@@ -1,5 +1,6 @@
 ghost use Rattle.std.specs.Prelude.{◌≡◌, ◌≤◌, ◌+◌, length, IfOk, IfSome};
-ghost use Rattle.sccs_group_command.specs.GroupText.{AddsEntry, ReadsGroup, entry_at, entry_with, fits_behind, group_of, has_name, head_of, some_of};
+ghost use Rattle.sccs_group_command.specs.GroupText.{AddsEntry, ReadsGroup, entry_at, entry_with, fits_behind};
+ghost use Rattle.sccs_group_command.specs.GroupText.{group_of, has_name, head_of, some_of};
 
 use crate::entries::{GroupEntries, GroupEntry, GroupFault};
 use sccs_base::{Line, Memory, Name};

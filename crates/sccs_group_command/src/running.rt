@@ -32,7 +32,8 @@ fn run_entries<O: Sink, E: Sink, D: Disk>(
 ) -> Result<u8, Fault>
     requires moment { IsMoment stamp.now.moment }
     requires entries { AreGrouped entries.now }
-    ensures { RunsEntries stamp.now entries.now result (quiet O.Sink E.Sink D.Disk out.old err.old disk.old) (quiet O.Sink E.Sink D.Disk out.new err.new disk.new) }
+    ensures { RunsEntries stamp.now entries.now result (quiet O.Sink E.Sink D.Disk out.old err.old disk.old)
+        (quiet O.Sink E.Sink D.Disk out.new err.new disk.new) }
 {
     match make_group(alloc, stamp, entries, out, err, disk) {
         Ok(()) => Ok(0),
@@ -42,7 +43,8 @@ fn run_entries<O: Sink, E: Sink, D: Disk>(
 
 // writes the number of the line at which an entry begins that is none
 fn write_bad<S: Sink>(number: u64, err: &mut S) -> Result<(), Failed>
-    ensures { GivesText (bad_line number) (S.given err.old) (S.given err.new) (S.faults err.old) (S.faults err.new) result }
+    ensures { GivesText (bad_line number) (S.given err.old) (S.given err.new) (S.faults err.old)
+        (S.faults err.new) result }
 {
     let mut buffer = Buffer::new();
     let digits = buffer.format(number).as_bytes();
@@ -74,7 +76,8 @@ fn run_lines<O: Sink, E: Sink, D: Disk>(
     disk: &mut D,
 ) -> Result<u8, Fault>
     requires { IsMoment stamp.now.moment }
-    ensures { RunsLines stamp.now (group_of lines.now) result (quiet O.Sink E.Sink D.Disk out.old err.old disk.old) (quiet O.Sink E.Sink D.Disk out.new err.new disk.new) }
+    ensures { RunsLines stamp.now (group_of lines.now) result (quiet O.Sink E.Sink D.Disk out.old err.old disk.old)
+        (quiet O.Sink E.Sink D.Disk out.new err.new disk.new) }
 {
     match read_group(alloc, lines) {
         Ok(entries) => run_entries(alloc, stamp, entries.items(), out, err, disk),
@@ -95,7 +98,8 @@ pub fn run_group<I: Source, O: Sink, E: Sink, D: Disk>(
     disk: &mut D,
 ) -> Result<u8, Fault>
     requires { IsMoment stamp.now.moment }
-    ensures { RunsGroup stamp.now result (setting_of I.Source O.Sink E.Sink D.Disk input.old out.old err.old disk.old) (setting_of I.Source O.Sink E.Sink D.Disk input.new out.new err.new disk.new) }
+    ensures { RunsGroup stamp.now result (setting_of I.Source O.Sink E.Sink D.Disk input.old out.old err.old disk.old)
+        (setting_of I.Source O.Sink E.Sink D.Disk input.new out.new err.new disk.new) }
 {
     match read_names(alloc, input, FILE_LIMIT) {
         Ok(lines) => run_lines(alloc, stamp, lines.items(), out, err, disk),

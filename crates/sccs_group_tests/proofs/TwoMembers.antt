@@ -41,10 +41,20 @@ two_are m1 m2 e f = (
     sfile = subst IsSFileName (sym e) a_sfile;
     alone = ap (λ (n : List ℕ). bytes_eq n m1.entry.name || false) f ∙ ap (λ (n : List ℕ). bytes_eq s_c n || false) e;
   },
-  (record { name = subst IsName (sym f) ((name_decides s_c).0 c_is); sfile = subst IsSFileName (sym f) c_sfile; alone = refl }, tt),
+  (
+    record {
+      name = subst IsName (sym f) ((name_decides s_c).0 c_is);
+      sfile = subst IsSFileName (sym f) c_sfile;
+      alone =
+          refl;
+    },
+    tt,
+  ),
 )
 
 -- as they are put in a list
-pub two_pushed : (l0 l1 l2 : List Member) (m1 m2 : Member) → l0 ≡ [] → l1 ≡ l0 ++ m1 ∷ [] → l2 ≡ l1 ++ m2 ∷ [] → m1.entry.name ≡ codes "s.a" → m2.entry.name ≡ codes "s.c" → AreMembers l2
+pub two_pushed : (l0 l1 l2 : List Member) (m1 m2 : Member) → l0 ≡ [] → l1 ≡ l0 ++ m1 ∷ [] → l2 ≡ l1 ++ m2 ∷ []
+    → m1.entry.name ≡ codes "s.a" → m2.entry.name ≡ codes "s.c" → AreMembers l2
 two_pushed l0 l1 l2 m1 m2 none first second e f =
-    subst AreMembers (sym (second ∙ ap (λ (l : List Member). l ++ m2 ∷ []) (first ∙ ap (λ (l : List Member). l ++ m1 ∷ []) none))) (two_are m1 m2 e f)
+    subst AreMembers (sym (second ∙ ap (λ (l : List Member). l ++ m2 ∷ []) (first
+    ∙ ap (λ (l : List Member). l ++ m1 ∷ []) none))) (two_are m1 m2 e f)

@@ -9,7 +9,8 @@ abbrev pub more_pieces : Option (List ℕ) → List (List ℕ)
 more_pieces None = []
 more_pieces (Some bytes) = pieces bytes
 
-comma_first : (b : ℕ) (bytes : List ℕ) → (b ≡ 44) ⊎ (b ≢ 44) → pieces bytes ≡ until 44 bytes ∷ more_pieces (behind 44 bytes) → pieces (b ∷ bytes) ≡ until 44 (b ∷ bytes) ∷ more_pieces (behind 44 (b ∷ bytes))
+comma_first : (b : ℕ) (bytes : List ℕ) → (b ≡ 44) ⊎ (b ≢ 44) → pieces bytes ≡ until 44 bytes ∷ more_pieces
+    (behind 44 bytes) → pieces (b ∷ bytes) ≡ until 44 (b ∷ bytes) ∷ more_pieces (behind 44 (b ∷ bytes))
 unfolding pieces until behind
 comma_first b bytes (inl is) rest = rw (eq-eqb b 44 is) refl
 comma_first b bytes (inr other) rest = rw (ne_eqb b 44 other) (ap (with_front b) rest)

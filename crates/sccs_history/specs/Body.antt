@@ -1,5 +1,6 @@
 -- The lines of a body, and the rules that its items keep. Items before a place stand nearest first.
-use Rattle.std.specs.Prelude.{◌≡◌, ℕ, suc, ◌<◌, max, nat_lt, ◌==◌, Bool, true, false, not, ◌&&◌, List, [], ◌∷◌, if◌then◌else◌}
+use Rattle.std.specs.Prelude.{◌≡◌, ℕ, suc, ◌<◌, max, nat_lt, ◌==◌, Bool, true, false, not, ◌&&◌, List, [], ◌∷◌}
+use Rattle.std.specs.Prelude.{if◌then◌else◌}
 use Rattle.std.specs.List.{AllByRecursion}
 use Rattle.sccs_history.specs.Numbers.{is_empty, falling, first, has, IsFalling}
 use Rattle.sccs_history.specs.declared.headers.Item.{Item}

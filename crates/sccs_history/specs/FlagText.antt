@@ -1,5 +1,6 @@
 -- What the text of a flag may be: sccsfile(4), "Flags".
-use Rattle.std.specs.Prelude.{ℕ, ◌==◌, nat_lt, Bool, true, false, not, ◌&&◌, ◌||◌, List, [], ◌∷◌, is_some, is_ok, unwrap_or, if◌then◌else◌}
+use Rattle.std.specs.Prelude.{ℕ, ◌==◌, nat_lt, Bool, true, false, not, ◌&&◌, ◌||◌, List, [], ◌∷◌, is_some, is_ok}
+use Rattle.std.specs.Prelude.{unwrap_or, if◌then◌else◌}
 use Rattle.std.specs.List.{list_all}
 use Rattle.sccs_sid.specs.Reading.{is_empty, number}
 use Rattle.sccs_sid.specs.Spec.{spec_of}
@@ -100,4 +101,5 @@ is_all (b ∷ bytes) = b == 97 && is_empty bytes
 abbrev pub fits_letter : ℕ → List ℕ → Bool
 fits_letter letter text =
     if letter == flag_c || letter == flag_f then is_number text
-    else (if letter == flag_d then is_any_sid text else (if letter == flag_l then is_all text || are_releases text else true))
+    else (if letter == flag_d then is_any_sid text else (if letter == flag_l then is_all text || are_releases text
+    else true))

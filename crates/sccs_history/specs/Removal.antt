@@ -8,9 +8,12 @@ use Rattle.sccs_history.specs.declared.headers.Item.TheVariants.{Text, Insert, D
 -- the items behind others without a serial's control items and the lines that it inserted
 abbrev pub dropped_behind : ℕ → List Item → List Item → List Item
 dropped_behind n before [] = []
-dropped_behind n before (Text text ∷ items) = front_if (not (inserter before == n)) (Text text) (dropped_behind n (Text text ∷ before) items)
-dropped_behind n before (Insert m ∷ items) = front_if (not (m == n)) (Insert m) (dropped_behind n (Insert m ∷ before) items)
-dropped_behind n before (Delete m ∷ items) = front_if (not (m == n)) (Delete m) (dropped_behind n (Delete m ∷ before) items)
+dropped_behind n before (Text text ∷ items) = front_if (not (inserter before == n)) (Text text)
+    (dropped_behind n (Text text ∷ before) items)
+dropped_behind n before (Insert m ∷ items) = front_if (not (m == n)) (Insert m)
+    (dropped_behind n (Insert m ∷ before) items)
+dropped_behind n before (Delete m ∷ items) = front_if (not (m == n)) (Delete m)
+    (dropped_behind n (Delete m ∷ before) items)
 dropped_behind n before (End m ∷ items) = front_if (not (m == n)) (End m) (dropped_behind n (End m ∷ before) items)
 
 -- the items of a body without those of a serial

@@ -1,7 +1,9 @@
 ghost use Rattle.std.specs.Prelude.{◌≡◌, ◌↔◌, ℕ, true, Bool, List, []};
 ghost use Rattle.std.specs.List.{AllByRecursion};
-ghost use Rattle.sccs_history.specs.Applied.{Asked, GoesBack, IsApplied, OnPath, applied, live_serials, newest, path, serials_of, version};
-ghost use Rattle.sccs_history.specs.Body.{Begins, GoesOn, HistoryLine, IsLine, inserter, is_insert, lines_of, mark, may_stand};
+ghost use Rattle.sccs_history.specs.Applied.{Asked, GoesBack, IsApplied, OnPath, applied, live_serials, newest, path};
+ghost use Rattle.sccs_history.specs.Applied.{serials_of, version};
+ghost use Rattle.sccs_history.specs.Body.{Begins, GoesOn, HistoryLine, IsLine, inserter, is_insert, lines_of, mark};
+ghost use Rattle.sccs_history.specs.Body.{may_stand};
 ghost use Rattle.sccs_history.specs.Linear.{IsLinear, has_no_delete, texts_of, undeleted};
 ghost use Rattle.sccs_history.specs.Numbers.{Falls, has};
 ghost use Rattle.sccs_history.specs.declared.headers.Item.TheVariants.{Text};

@@ -5,14 +5,16 @@ ghost use Rattle.sccs_history.specs.Body.{Begins, GoesOn, lines_of};
 ghost use Rattle.sccs_history.specs.FlagText.{fits_letter};
 ghost use Rattle.sccs_history.specs.History.{IsValid, IsRooted};
 ghost use Rattle.sccs_history.specs.Removal.{dropped, dropped_lines};
-ghost use Rattle.sccs_history.specs.Samples.{sample_asked, branched, branched_body, branched_table, crossing_body, first_body, listing_table, text_of_one, second_body, shown_when_asked};
+ghost use Rattle.sccs_history.specs.Samples.{sample_asked, branched, branched_body, branched_table, crossing_body};
+ghost use Rattle.sccs_history.specs.Samples.{first_body, listing_table, text_of_one, second_body, shown_when_asked};
 ghost use Rattle.sccs_history.specs.Select.{select};
 
 /// Versions of a file with a branch, lists of a call, and a cutoff at a delta's very second.
 pub fn branch_lists_and_cutoff()
     ensures first { version 1 branched_table (lines_of branched_body) ≡ text_of_one 97 ∷ text_of_one 98 ∷ [] }
     ensures second { version 2 branched_table (lines_of branched_body) ≡ text_of_one 97 ∷ text_of_one 66 ∷ [] }
-    ensures branch { version 3 branched_table (lines_of branched_body) ≡ text_of_one 97 ∷ text_of_one 98 ∷ text_of_one 99 ∷ [] }
+    ensures branch { version 3 branched_table (lines_of branched_body) ≡ text_of_one 97 ∷ text_of_one 98
+        ∷ text_of_one 99 ∷ [] }
     ensures included { shown_when_asked (sample_asked 2 (3 ∷ []) [] None) branched_table branched_body
         ≡ text_of_one 97 ∷ text_of_one 66 ∷ text_of_one 99 ∷ [] }
     ensures excluded { shown_when_asked (sample_asked 2 [] (2 ∷ []) None) branched_table branched_body
@@ -38,7 +40,8 @@ pub fn newer_list_decides()
 
 /// Regions that cross, to four sets.
 pub fn crossing_regions()
-    ensures first { select (1 ∷ []) (lines_of crossing_body) ≡ text_of_one 112 ∷ text_of_one 113 ∷ text_of_one 116 ∷ [] }
+    ensures first { select (1 ∷ []) (lines_of crossing_body) ≡ text_of_one 112 ∷ text_of_one 113 ∷ text_of_one 116
+        ∷ [] }
     ensures deleted { select (3 ∷ 1 ∷ []) (lines_of crossing_body) ≡ text_of_one 112 ∷ text_of_one 116 ∷ [] }
     ensures inserted { select (5 ∷ 1 ∷ []) (lines_of crossing_body)
         ≡ text_of_one 112 ∷ text_of_one 113 ∷ text_of_one 114 ∷ text_of_one 115 ∷ text_of_one 116 ∷ [] }

@@ -1,5 +1,6 @@
 -- Bytes cut at LF: by the first line, and put together again.
-use Rattle.std.proofs.Common.{◌≡◌, ℕ, ◌==◌, Bool, true, false, not, List, [], ◌∷◌, ◌++◌, flat_map, refl, ap, ◌∙◌, append_assoc}
+use Rattle.std.proofs.Common.{◌≡◌, ℕ, ◌==◌, Bool, true, false, not, List, [], ◌∷◌, ◌++◌, flat_map, refl, ap, ◌∙◌}
+use Rattle.std.proofs.Common.{append_assoc}
 use Rattle.std.specs.List.{list_all}
 use Rattle.std.proofs.lemmas.Bool.{and_parts, eqb-true, not-true}
 use Rattle.sccs_base.specs.Cut.{Cut, before, cut, longer}
@@ -23,7 +24,8 @@ line_behind (b ∷ line) rest whole =
     ∙ rw (not-true (b == 10) parts.0) (ap (λ (c : Cut). longer b c.lines c.tail) (line_behind line rest parts.1))
 
 -- a line without LF, and its LF, in front of other bytes
-pub cut_ended : (line rest : List ℕ) → list_all is_other line ≡ true → cut (ended line ++ rest) ≡ with_line line (cut rest)
+pub cut_ended : (line rest : List ℕ) → list_all is_other line ≡ true → cut (ended line ++ rest) ≡ with_line line
+    (cut rest)
 cut_ended line rest whole = ap cut (append_assoc line (10 ∷ []) rest) ∙ line_behind line rest whole
 
 -- ---- what is cut, put together again
@@ -31,7 +33,8 @@ cut_ended line rest whole = ap cut (append_assoc line (10 ∷ []) rest) ∙ line
 abbrev joined : Cut → List ℕ
 joined c = flat_map ended c.lines ++ c.tail
 
-joined_other : (b : ℕ) (lines : List (List ℕ)) (tail : List ℕ) → b ∷ flat_map ended lines ++ tail ≡ joined (longer b lines tail)
+joined_other : (b : ℕ) (lines : List (List ℕ)) (tail : List ℕ) → b ∷ flat_map ended lines ++ tail ≡ joined
+    (longer b lines tail)
 joined_other b [] tail = refl
 joined_other b (line ∷ lines) tail = refl
 

@@ -18,14 +18,16 @@ differ a c other =
     ]
 
 -- the name of one more is another
-more_alone : (others : List IntentEntry) (name : List ℕ) (e : IntentEntry) → has_name others name ≡ false → bytes_eq e.name name ≡ false → has_name (others ++ e ∷ []) name ≡ false
+more_alone : (others : List IntentEntry) (name : List ℕ) (e : IntentEntry) → has_name others name ≡ false
+    → bytes_eq e.name name ≡ false → has_name (others ++ e ∷ []) name ≡ false
 more_alone [] name e none other = or_from (bytes_eq e.name name) false other refl
 more_alone (f ∷ others) name e none other =
     let parts = or_parts (bytes_eq f.name name) (has_name others name) none in
     or_from (bytes_eq f.name name) (has_name (others ++ e ∷ []) name) parts.0 (more_alone others name e parts.1 other)
 
 -- one entry more, of another name
-pub others_more : (before : List IntentEntry) (e : IntentEntry) → AreOthers before → IsOther before e → AreOthers (before ++ e ∷ [])
+pub others_more : (before : List IntentEntry) (e : IntentEntry) → AreOthers before → IsOther before e
+    → AreOthers (before ++ e ∷ [])
 others_more [] e are is = (record { name = is.name; sfile = is.sfile; alone = refl }, tt)
 others_more (f ∷ before) e are is =
     let parts = or_parts (bytes_eq f.name e.name) (has_name before e.name) is.alone in (
@@ -37,19 +39,23 @@ others_more (f ∷ before) e are is =
       others_more before e are.1 (record { name = is.name; sfile = is.sfile; alone = parts.1 }),
     )
 
-without_behind : (before behind : List IntentEntry) (e : IntentEntry) (name : List ℕ) → has_name (before ++ e ∷ behind) name ≡ false → bytes_eq e.name name ≡ false
+without_behind : (before behind : List IntentEntry) (e : IntentEntry) (name : List ℕ)
+    → has_name (before ++ e ∷ behind) name ≡ false → bytes_eq e.name name ≡ false
 without_behind [] behind e name none = (or_parts (bytes_eq e.name name) (has_name behind name) none).0
 without_behind (f ∷ before) behind e name none =
     without_behind before behind e name (or_parts (bytes_eq f.name name) (has_name (before ++ e ∷ behind) name) none).1
 
 -- an entry among others differs from those before it
-pub alone_behind : (before behind : List IntentEntry) (e : IntentEntry) → AreOthers (before ++ e ∷ behind) → has_name before e.name ≡ false
+pub alone_behind : (before behind : List IntentEntry) (e : IntentEntry) → AreOthers (before ++ e ∷ behind)
+    → has_name before e.name ≡ false
 alone_behind [] behind e are = refl
 alone_behind (f ∷ before) behind e are =
-    or_from (bytes_eq f.name e.name) (has_name before e.name) (differ e.name f.name (without_behind before behind e f.name are.0.alone))
+    or_from (bytes_eq f.name e.name) (has_name before e.name)
+    (differ e.name f.name (without_behind before behind e f.name are.0.alone))
     (alone_behind before behind e are.1)
 
 -- and those behind it
-pub other_behind : (before behind : List IntentEntry) (e : IntentEntry) → AreOthers (before ++ e ∷ behind) → IsOther behind e
+pub other_behind : (before behind : List IntentEntry) (e : IntentEntry) → AreOthers (before ++ e ∷ behind)
+    → IsOther behind e
 other_behind [] behind e are = are.0
 other_behind (f ∷ before) behind e are = other_behind before behind e are.1

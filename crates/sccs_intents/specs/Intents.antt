@@ -1,8 +1,12 @@
--- The intent of a group (own): while the deltas of a group take their places, the file `sccs.intent` names its s-files, each
--- with what becomes of its p-file. The first line is `sccs group 1`; then comes one line for each name, `r NAME` where the new
--- p-file takes the place of the old one and `d NAME` where the p-file goes; the last line is `end`. Each line has LF at its end
+-- The intent of a group (own): while the deltas of a group take their places, the file `sccs.intent` names its s-files,
+-- each
+-- with what becomes of its p-file. The first line is `sccs group 1`; then comes one line for each name, `r NAME` where
+-- the new
+-- p-file takes the place of the old one and `d NAME` where the p-file goes; the last line is `end`. Each line has LF at
+-- its end
 -- and nothing follows the last one. Names are those of s-files and differ, and there is one at least.
-use Rattle.std.specs.Prelude.{◌≡◌, ℕ, ◌+◌, ◌==◌, nat_lt, Bool, false, not, ◌&&◌, List, [], ◌∷◌, ◌++◌, length, codes, Option, None, Some, option_map, find, Result, Ok, Err, if◌then◌else◌}
+use Rattle.std.specs.Prelude.{◌≡◌, ℕ, ◌+◌, ◌==◌, nat_lt, Bool, false, not, ◌&&◌, List, [], ◌∷◌, ◌++◌, length, codes}
+use Rattle.std.specs.Prelude.{Option, None, Some, option_map, find, Result, Ok, Err, if◌then◌else◌}
 use Rattle.std.specs.List.{list_any}
 use Rattle.std.specs.Str.{bytes_eq}
 use Rattle.sccs_base.specs.Constants.{file_limit}
@@ -73,11 +77,13 @@ closed number entries [] (b ∷ tail) = Err number
 closed number entries (line ∷ lines) tail = Err number
 
 -- with the entries, where the line of this number has one; else the line is at fault
-abbrev pub go_on : ℕ → Option (List IntentEntry) → (List IntentEntry → Result (List IntentEntry) ℕ) → Result (List IntentEntry) ℕ
+abbrev pub go_on : ℕ → Option (List IntentEntry) → (List IntentEntry → Result (List IntentEntry) ℕ)
+    → Result (List IntentEntry) ℕ
 go_on number None rest = Err number
 go_on number (Some entries) rest = rest entries
 
--- the entries of lines behind others, of which the next has a number, with the bytes behind the last LF; or the first line
+-- the entries of lines behind others, of which the next has a number, with the bytes behind the last LF; or the first
+-- line
 -- at fault
 abbrev pub entries_from : ℕ → List IntentEntry → List (List ℕ) → List ℕ → Result (List IntentEntry) ℕ
 entries_from number entries [] tail = Err number
@@ -93,7 +99,8 @@ abbrev pub begun : List (List ℕ) → List ℕ → Result (List IntentEntry) �
 begun [] tail = Err 1
 begun (line ∷ lines) tail = if bytes_eq line first_line then entries_from 2 [] lines tail else Err 1
 
--- the entries of an intent, or the number of the first line that isn't of its form; one past the limit is at fault in line 1
+-- the entries of an intent, or the number of the first line that isn't of its form; one past the limit is at fault in
+-- line 1
 unfoldable pub intent_of : List ℕ → Result (List IntentEntry) ℕ
 intent_of bytes = if nat_lt file_limit (length bytes) then Err 1 else begun (cut bytes).lines (cut bytes).tail
 
@@ -108,7 +115,8 @@ entries_in (Some c) = well_formed (intent_of c.bytes)
 
 -- what the entries say of a name
 abbrev pub fate_in : List IntentEntry → List ℕ → Option Fate
-fate_in entries name = option_map (λ (e : IntentEntry). e.fate) (find (λ (e : IntentEntry). bytes_eq e.name name) entries)
+fate_in entries name = option_map (λ (e : IntentEntry). e.fate) (find (λ (e : IntentEntry). bytes_eq e.name name)
+    entries)
 
 -- What is read is this, or there was no memory.
 abbrev pub Reads : Result (List IntentEntry) IntentFault → Result (List IntentEntry) ℕ → Type 0
@@ -117,7 +125,8 @@ Reads (Err (BadIntent line)) read = read ≡ Err line
 Reads (Err Memory) read = Unit {0}
 
 -- the entry of a line is added; or the line, which has a number, has none, or one of a name that is there
-abbrev pub AddsEntry : Result (Unit {0}) IntentFault → ℕ → Option IntentEntry → List IntentEntry → List IntentEntry → Type 0
+abbrev pub AddsEntry : Result (Unit {0}) IntentFault → ℕ → Option IntentEntry → List IntentEntry → List IntentEntry
+    → Type 0
 AddsEntry (Ok done) number e old new = with_entry old e ≡ Some new
 AddsEntry (Err (BadIntent line)) number e old new = (line ≡ number) × (with_entry old e ≡ None)
 AddsEntry (Err Memory) number e old new = Unit {0}

@@ -24,7 +24,8 @@ entry_text e = ended (entry_line e)
 abbrev pub intent_text : List IntentEntry → List ℕ
 intent_text entries = ended first_line ++ (flat_map entry_text entries ++ ended last_line)
 
--- The entries are those of an intent: there is one at least, their names are those of s-files and differ, and the text is
+-- The entries are those of an intent: there is one at least, their names are those of s-files and differ, and the text
+-- is
 -- within the limit of a file.
 pub record IsIntent (entries : List IntentEntry) : Type 0 where
   pub some : 0 < length entries

@@ -10,10 +10,12 @@ ghost use Rattle.sccs_intents.specs.declared.intents.IntentEntry.{IntentEntry};
 pub fn intents_are_read_again()
     ensures written { (entries : List IntentEntry) → IsIntent entries → intent_of (intent_text entries) ≡ Ok entries }
     ensures read { (bytes : List ℕ) (entries : List IntentEntry) → intent_of bytes ≡ Ok entries → IsIntent entries }
-    ensures spelled { (bytes : List ℕ) (entries : List IntentEntry) → intent_of bytes ≡ Ok entries → bytes ≡ intent_text entries }
+    ensures spelled { (bytes : List ℕ) (entries : List IntentEntry) → intent_of bytes ≡ Ok entries
+        → bytes ≡ intent_text entries }
 {}
 
 /// The text of up to a thousand entries is within the limit of a file.
 pub fn thousand_entries_fit()
-    ensures { (entries : List IntentEntry) → AreOthers entries → length entries ≤ 1000 → length (intent_text entries) ≤ file_limit }
+    ensures { (entries : List IntentEntry) → AreOthers entries → length entries ≤ 1000
+        → length (intent_text entries) ≤ file_limit }
 {}

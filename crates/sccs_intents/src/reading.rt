@@ -1,6 +1,7 @@
 ghost use Rattle.std.specs.Prelude.{◌≡◌, ◌+◌, [], length};
 ghost use Rattle.sccs_base.specs.Cut.{cut};
-ghost use Rattle.sccs_intents.specs.Intents.{AddsEntry, Reads, closed, closes, entries_at, entry_of, fate_of, has_name, intent_of};
+ghost use Rattle.sccs_intents.specs.Intents.{AddsEntry, Reads, closed, closes, entries_at, entry_of, fate_of, has_name};
+ghost use Rattle.sccs_intents.specs.Intents.{intent_of};
 
 use crate::intents::{Entries, FIRST_LINE, Fate, IntentEntry, IntentFault, LAST_LINE};
 use sccs_base::{FILE_LIMIT, LF, Name};

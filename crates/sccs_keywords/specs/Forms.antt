@@ -1,5 +1,6 @@
 -- How get gives the lines of a version (POSIX get, -m, -n, and Identification Keywords).
-use Rattle.std.specs.Prelude.{ℕ, suc, ◌==◌, Bool, true, false, ◌||◌, List, [], ◌∷◌, ◌++◌, map, Option, None, Some, is_some, option_map, if◌then◌else◌}
+use Rattle.std.specs.Prelude.{ℕ, suc, ◌==◌, Bool, true, false, ◌||◌, List, [], ◌∷◌, ◌++◌, map, Option, None, Some}
+use Rattle.std.specs.Prelude.{is_some, option_map, if◌then◌else◌}
 use Rattle.std.specs.List.{list_any}
 use Rattle.sccs_sid.specs.Sid.{sid_text}
 use Rattle.sccs_sid.specs.declared.sids.Sid.{Sid}
@@ -49,7 +50,8 @@ replaced_line (Some facts) number line = expanded facts number line
 -- what is given for bytes that a delta inserted as a line, which is the one with this number in its text
 abbrev pub formed : LineForm → List Record → ℕ → ℕ → List ℕ → List ℕ
 formed form records number inserter line =
-    tabbed form.module_name ++ (tabbed (sid_before form.has_sids records inserter) ++ ended (replaced_line form.facts number line))
+    tabbed form.module_name ++ (tabbed (sid_before form.has_sids records inserter) ++ ended
+    (replaced_line form.facts number line))
 
 abbrev pub formed_line : LineForm → List Record → ℕ → HistoryLine → List ℕ
 formed_line form records number line = formed form records number line.inserter line.text
@@ -57,12 +59,14 @@ formed_line form records number line = formed form records number line.inserter 
 -- the text of lines, the first of which has this number
 abbrev pub formed_text : LineForm → List Record → ℕ → List HistoryLine → List ℕ
 formed_text form records number [] = []
-formed_text form records number (line ∷ lines) = formed_line form records number line ++ formed_text form records (suc number) lines
+formed_text form records number (line ∷ lines) = formed_line form records number line ++ formed_text form records
+    (suc number) lines
 
 -- what is given for lines that a delta inserted, the first of which has this number
 abbrev pub formed_lines : LineForm → List Record → ℕ → ℕ → List (List ℕ) → List ℕ
 formed_lines form records number inserter [] = []
-formed_lines form records number inserter (line ∷ lines) = formed form records number inserter line ++ formed_lines form records (suc number) inserter lines
+formed_lines form records number inserter (line ∷ lines) = formed form records number inserter line
+    ++ formed_lines form records (suc number) inserter lines
 
 -- whether something stands before each line
 abbrev pub has_prefix : LineForm → Bool

@@ -1,7 +1,11 @@
 -- The keywords of a line (POSIX get, Identification Keywords): a letter between two percent signs.
-use Rattle.std.specs.Prelude.{◌≡◌, ℕ, zero, suc, ◌<◌, ◌==◌, Bool, true, false, ◌&&◌, List, [], ◌∷◌, drop, Option, None, Some, if◌then◌else◌}
+use Rattle.std.specs.Prelude.{◌≡◌, ℕ, zero, suc, ◌<◌, ◌==◌, Bool, true, false, ◌&&◌, List, [], ◌∷◌, drop, Option, None}
+use Rattle.std.specs.Prelude.{Some, if◌then◌else◌}
 use Rattle.sccs_keywords.specs.declared.keywords.Keyword.{Keyword}
-use Rattle.sccs_keywords.specs.declared.keywords.Keyword.TheVariants.{Module, Sid, Release, Level, Branch, Sequence, Date, MonthFirstDate, Time, NewestDate, NewestMonthFirstDate, NewestTime, Kind, User, FileName, Path, LineNumber, Mark, What, Assembly}
+use Rattle.sccs_keywords.specs.declared.keywords.Keyword.TheVariants.{Module, Sid, Release, Level, Branch, Sequence}
+use Rattle.sccs_keywords.specs.declared.keywords.Keyword.TheVariants.{Date, MonthFirstDate, Time, NewestDate}
+use Rattle.sccs_keywords.specs.declared.keywords.Keyword.TheVariants.{NewestMonthFirstDate, NewestTime, Kind, User}
+use Rattle.sccs_keywords.specs.declared.keywords.Keyword.TheVariants.{FileName, Path, LineNumber, Mark, What, Assembly}
 
 -- the keyword of a letter
 abbrev pub keyword_of : ℕ → Option Keyword
@@ -55,7 +59,8 @@ keyword_rest (Some keyword) = 2
 abbrev pub parts_behind : ℕ → List ℕ → List Part
 parts_behind skip [] = []
 parts_behind (suc skip) (byte ∷ bytes) = parts_behind skip bytes
-parts_behind zero (byte ∷ bytes) = keyword_part byte (found_keyword (byte ∷ bytes)) ∷ parts_behind (keyword_rest (found_keyword (byte ∷ bytes))) bytes
+parts_behind zero (byte ∷ bytes) = keyword_part byte (found_keyword (byte ∷ bytes)) ∷ parts_behind
+    (keyword_rest (found_keyword (byte ∷ bytes))) bytes
 
 -- the parts of a line, from left to right: bytes of a keyword that was found belong to no other
 abbrev pub parts : List ℕ → List Part

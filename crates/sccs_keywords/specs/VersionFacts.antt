@@ -34,7 +34,8 @@ newest_applied records set = find (λ r. has set r.serial) records
 -- when it was made; where none is applied, when the delta that is got was
 abbrev pub newest_moment : List Record → List ℕ → ℕ → Moment → Moment
 newest_moment records set target otherwise =
-    unwrap_or (option_map (λ r. r.moment) (newest_applied records set)) (unwrap_or (option_map (λ r. r.moment) (record_at records target)) otherwise)
+    unwrap_or (option_map (λ r. r.moment) (newest_applied records set))
+    (unwrap_or (option_map (λ r. r.moment) (record_at records target)) otherwise)
 
 -- what keywords stand for where the version of a target is got at a moment from the file of a name in a folder
 abbrev pub facts_of : Header → List ℕ → ℕ → Sid → List ℕ → List ℕ → Stamp → Facts

@@ -10,7 +10,8 @@ use sccs_base::{Failed, Sink};
 /// the line in its text, from 1. What stands between two keywords is given at once.
 pub fn expand<S: Sink>(line: &[u8], number: u64, facts: &Facts, out: &mut S) -> Result<(), Failed>
     requires { HasMoments facts.now }
-    ensures { GivesText (expanded facts.now number line.now) (S.given out.old) (S.given out.new) (S.faults out.old) (S.faults out.new) result }
+    ensures { GivesText (expanded facts.now number line.now) (S.given out.old) (S.given out.new) (S.faults out.old)
+        (S.faults out.new) result }
 {
     let mut from = 0;
     'keywords: while let Some((place, keyword)) = find_keyword(&line[from..]) {

@@ -5,7 +5,8 @@ ghost use Rattle.sccs_base.specs.Cut.{cut};
 ghost use Rattle.sccs_tokens.specs.Written.{ended};
 ghost use Rattle.sccs_keywords.specs.Expansion.{expanded, HasMoments};
 ghost use Rattle.sccs_keywords.specs.Keywords.{is_keyword, parts};
-ghost use Rattle.sccs_keywords.specs.Forms.{line_form, formed, formed_lines, has_prefix, if_replaced, replaced_line, sid_before, tabbed};
+ghost use Rattle.sccs_keywords.specs.Forms.{line_form, formed, formed_lines, has_prefix, if_replaced, replaced_line};
+ghost use Rattle.sccs_keywords.specs.Forms.{sid_before, tabbed};
 
 use crate::expansion::expand;
 use crate::facts::Facts;
@@ -68,7 +69,8 @@ fn sid_before<'a>(
 
 // gives a text and a tab, where there is a text
 fn give_tabbed<S: Sink>(text: Option<&[u8]>, out: &mut S) -> Result<(), Failed>
-    ensures { GivesText (tabbed (option_map (λ t. t.now) text.entry)) (S.given out.old) (S.given out.new) (S.faults out.old) (S.faults out.new) result }
+    ensures { GivesText (tabbed (option_map (λ t. t.now) text.entry)) (S.given out.old) (S.given out.new)
+        (S.faults out.old) (S.faults out.new) result }
 {
     match text {
         Some(text) => give_parts(out, &[text, b"\t"]),
@@ -84,7 +86,8 @@ fn give_expanded<S: Sink>(
     out: &mut S,
 ) -> Result<(), Failed>
     requires { HasMoments facts.now }
-    ensures { GivesText (ended (expanded facts.now number line.now)) (S.given out.old) (S.given out.new) (S.faults out.old) (S.faults out.new) result }
+    ensures { GivesText (ended (expanded facts.now number line.now)) (S.given out.old) (S.given out.new)
+        (S.faults out.old) (S.faults out.new) result }
 {
     if let Err(fault) = expand(line, number, facts, out) {
         return Err(fault);
@@ -100,7 +103,8 @@ fn give_replaced<S: Sink>(
     out: &mut S,
 ) -> Result<(), Failed>
     requires { IfSome facts (λ f. HasMoments f.now) }
-    ensures { GivesText (ended (replaced_line (option_map (λ f. f.now) facts.entry) number line.now)) (S.given out.old) (S.given out.new) (S.faults out.old) (S.faults out.new) result }
+    ensures { GivesText (ended (replaced_line (option_map (λ f. f.now) facts.entry) number line.now)) (S.given out.old)
+        (S.given out.new) (S.faults out.old) (S.faults out.new) result }
 {
     match facts {
         Some(facts) => give_expanded(facts, number, line, out),
@@ -117,7 +121,8 @@ fn give_behind<S: Sink>(
     out: &mut S,
 ) -> Result<(), Failed>
     requires { IfSome (line_form form.now).facts HasMoments }
-    ensures { GivesText (tabbed (line_form form.now).module_name ++ (tabbed (option_map (λ t. t.now) sid.entry) ++ ended (replaced_line (line_form form.now).facts number line.now)))
+    ensures { GivesText (tabbed (line_form form.now).module_name ++ (tabbed (option_map (λ t. t.now) sid.entry) ++ ended
+        (replaced_line (line_form form.now).facts number line.now)))
         (S.given out.old) (S.given out.new) (S.faults out.old) (S.faults out.new) result }
 {
     if let Err(fault) = give_tabbed(form.module_text(), out) {
@@ -140,7 +145,8 @@ pub fn give_line<S: Sink>(
     out: &mut S,
 ) -> Result<(), Failed>
     requires { IfSome (line_form form.now).facts HasMoments }
-    ensures text { GivesText (formed (line_form form.now) sids.old number inserter line.now) (S.given out.old) (S.given out.new) (S.faults out.old) (S.faults out.new) result }
+    ensures text { GivesText (formed (line_form form.now) sids.old number inserter line.now) (S.given out.old)
+        (S.given out.new) (S.faults out.old) (S.faults out.new) result }
     ensures table { sids.new ≡ sids.old }
 {
     let mut row = [0; DETAIL_ROOM];
@@ -161,7 +167,8 @@ pub fn give_lines<S: Sink>(
     requires facts { IfSome (line_form form.now).facts HasMoments }
     requires whole { (cut lines.now).tail ≡ [] }
     requires few { before + length (cut lines.now).lines < 2 ^ 64 }
-    ensures text { GivesText (formed_lines (line_form form.now) sids.old (before + 1) inserter (cut lines.now).lines) (S.given out.old) (S.given out.new) (S.faults out.old) (S.faults out.new) result }
+    ensures text { GivesText (formed_lines (line_form form.now) sids.old (before + 1) inserter (cut lines.now).lines)
+        (S.given out.old) (S.given out.new) (S.faults out.old) (S.faults out.new) result }
     ensures table { sids.new ≡ sids.old }
 {
     let mut row = [0; DETAIL_ROOM];

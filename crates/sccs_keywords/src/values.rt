@@ -15,14 +15,16 @@ const MARK: &[u8] = b"@(#)";
 
 // gives a number in decimal
 fn give_number<S: Sink>(number: u64, out: &mut S) -> Result<(), Failed>
-    ensures { GivesText (decimal number) (S.given out.old) (S.given out.new) (S.faults out.old) (S.faults out.new) result }
+    ensures { GivesText (decimal number) (S.given out.old) (S.given out.new) (S.faults out.old)
+        (S.faults out.new) result }
 {
     out.give(Buffer::new().format(number).as_bytes())
 }
 
 // gives a component of a SID, nothing where it is 0
 fn give_component<S: Sink>(number: u16, out: &mut S) -> Result<(), Failed>
-    ensures { GivesText (component_text number) (S.given out.old) (S.given out.new) (S.faults out.old) (S.faults out.new) result }
+    ensures { GivesText (component_text number) (S.given out.old) (S.given out.new) (S.faults out.old)
+        (S.faults out.new) result }
 {
     if number == 0 {
         return out.give(b"");
@@ -33,7 +35,8 @@ fn give_component<S: Sink>(number: u16, out: &mut S) -> Result<(), Failed>
 // gives a date as yy/mm/dd
 fn give_date<S: Sink>(moment: &Moment, out: &mut S) -> Result<(), Failed>
     requires { IsMoment moment.now }
-    ensures { GivesText (date_text moment.now) (S.given out.old) (S.given out.new) (S.faults out.old) (S.faults out.new) result }
+    ensures { GivesText (date_text moment.now) (S.given out.old) (S.given out.new) (S.faults out.old)
+        (S.faults out.new) result }
 {
     let text = moment.text();
     out.give(&text[..8])
@@ -42,7 +45,8 @@ fn give_date<S: Sink>(moment: &Moment, out: &mut S) -> Result<(), Failed>
 // gives a time as hh:mm:ss
 fn give_time<S: Sink>(moment: &Moment, out: &mut S) -> Result<(), Failed>
     requires { IsMoment moment.now }
-    ensures { GivesText (time_text moment.now) (S.given out.old) (S.given out.new) (S.faults out.old) (S.faults out.new) result }
+    ensures { GivesText (time_text moment.now) (S.given out.old) (S.given out.new) (S.faults out.old)
+        (S.faults out.new) result }
 {
     let text = moment.text();
     out.give(&text[9..])
@@ -51,7 +55,8 @@ fn give_time<S: Sink>(moment: &Moment, out: &mut S) -> Result<(), Failed>
 // gives a date as mm/dd/yy
 fn give_month_first<S: Sink>(moment: &Moment, out: &mut S) -> Result<(), Failed>
     requires { IsMoment moment.now }
-    ensures { GivesText (month_first (civil_of moment.now)) (S.given out.old) (S.given out.new) (S.faults out.old) (S.faults out.new) result }
+    ensures { GivesText (month_first (civil_of moment.now)) (S.given out.old) (S.given out.new) (S.faults out.old)
+        (S.faults out.new) result }
 {
     let text = moment.text();
     out.give(&[
@@ -61,7 +66,8 @@ fn give_month_first<S: Sink>(moment: &Moment, out: &mut S) -> Result<(), Failed>
 
 // gives mark, module, tab and SID
 fn give_what<S: Sink>(facts: &Facts, out: &mut S) -> Result<(), Failed>
-    ensures { GivesText (keyword_text facts.now 0 words.What) (S.given out.old) (S.given out.new) (S.faults out.old) (S.faults out.new) result }
+    ensures { GivesText (keyword_text facts.now 0 words.What) (S.given out.old) (S.given out.new) (S.faults out.old)
+        (S.faults out.new) result }
 {
     if let Err(fault) = give_parts(out, &[MARK, facts.module.bytes(), b"\t"]) {
         return Err(fault);
@@ -71,7 +77,8 @@ fn give_what<S: Sink>(facts: &Facts, out: &mut S) -> Result<(), Failed>
 
 // gives mark, kind, module, SID and mark
 fn give_assembly<S: Sink>(facts: &Facts, out: &mut S) -> Result<(), Failed>
-    ensures { GivesText (keyword_text facts.now 0 words.Assembly) (S.given out.old) (S.given out.new) (S.faults out.old) (S.faults out.new) result }
+    ensures { GivesText (keyword_text facts.now 0 words.Assembly) (S.given out.old) (S.given out.new) (S.faults out.old)
+        (S.faults out.new) result }
 {
     let parts = [MARK, facts.kind.bytes(), b" ", facts.module.bytes(), b" "];
     if let Err(fault) = give_parts(out, &parts) {
@@ -91,7 +98,8 @@ pub fn give_keyword<S: Sink>(
     out: &mut S,
 ) -> Result<(), Failed>
     requires { HasMoments facts.now }
-    ensures { GivesText (keyword_text facts.now number keyword) (S.given out.old) (S.given out.new) (S.faults out.old) (S.faults out.new) result }
+    ensures { GivesText (keyword_text facts.now number keyword) (S.given out.old) (S.given out.new) (S.faults out.old)
+        (S.faults out.new) result }
 {
     match keyword {
         Keyword::Module => out.give(facts.module.bytes()),

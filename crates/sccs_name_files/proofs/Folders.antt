@@ -10,7 +10,8 @@ use Rattle.sccs_name_files.specs.StepFiles.{Files, l_file, moved, moved_in, set_
 
 set_at : (m : Folder) (n : List ℕ) (x : Option Content) (k : List ℕ) → view_in (set_in m n x) k ≡ put (view_in m) n x k
 set_at m n None k = get-remove nat_list_cmp_total m n k ∙ ap (λ test. cond test None (get m k)) (same_test k n)
-set_at m n (Some c) k = get-insert nat_list_cmp_total m n c k ∙ ap (λ test. cond test (Some c) (get m k)) (same_test k n)
+set_at m n (Some c) k = get-insert nat_list_cmp_total m n c k ∙ ap (λ test. cond test (Some c) (get m k))
+    (same_test k n)
 
 set_view : (m : Folder) (n : List ℕ) (x : Option Content) → view_in (set_in m n x) ≡ put (view_in m) n x
 set_view m n x = fun_ext (set_at m n x)
@@ -24,4 +25,5 @@ moved_view m n (Some f) =
     let p : Folder = set_in g (p_file n) f.p in
     set_view p n f.s
     ∙ ap (λ (v : View). put v n f.s) (set_view g (p_file n) f.p
-    ∙ ap (λ (v : View). put v (p_file n) f.p) (set_view z (drop 2 n) f.g ∙ ap (λ (v : View). put v (drop 2 n) f.g) (set_view l (z_file n) f.z ∙ ap (λ (v : View). put v (z_file n) f.z) (set_view m (l_file n) f.l))))
+    ∙ ap (λ (v : View). put v (p_file n) f.p) (set_view z (drop 2 n) f.g ∙ ap (λ (v : View). put v (drop 2 n) f.g)
+    (set_view l (z_file n) f.z ∙ ap (λ (v : View). put v (z_file n) f.z) (set_view m (l_file n) f.l))))

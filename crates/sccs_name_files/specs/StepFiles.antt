@@ -43,7 +43,8 @@ set_in m n (Some c) = insert m n c
 
 abbrev pub moved_in : Folder → List ℕ → Option Files → Folder
 moved_in m n None = m
-moved_in m n (Some f) = set_in (set_in (set_in (set_in (set_in m (l_file n) f.l) (z_file n) f.z) (drop 2 n) f.g) (p_file n) f.p) n f.s
+moved_in m n (Some f) = set_in (set_in (set_in (set_in (set_in m (l_file n) f.l) (z_file n) f.z) (drop 2 n) f.g)
+    (p_file n) f.p) n f.s
 
 -- the x-, q- and y-file of a name
 abbrev pub is_working : List ℕ → List ℕ → Bool

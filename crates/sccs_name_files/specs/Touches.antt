@@ -50,11 +50,13 @@ TouchesOnly mine old new = (m : Model) (past : List Model) → old ≡ Tells m p
 
 -- a call that writes to one file alone, where no other name has led to it
 abbrev pub WritesOnly : List ℕ → Told → Told → Type 0
-WritesOnly n old new = (m : Model) (past : List Model) → old ≡ Tells m past → IsOwn n m → Touching (bytes_eq n) m past new
+WritesOnly n old new = (m : Model) (past : List Model) → old ≡ Tells m past → IsOwn n m
+    → Touching (bytes_eq n) m past new
 
 -- where a model was told, the one that is told now has P
 abbrev pub Leaves : (Model → Type 0) → Told → Told → Type 0
-Leaves P old new = (m : Model) (past : List Model) → old ≡ Tells m past → (m2 : Model) (past2 : List Model) → new ≡ Tells m2 past2 → P m2
+Leaves P old new = (m : Model) (past : List Model) → old ≡ Tells m past → (m2 : Model) (past2 : List Model)
+    → new ≡ Tells m2 past2 → P m2
 
 -- what is told leads each name to a file of its own
 abbrev pub TellsSane : Told → Type 0

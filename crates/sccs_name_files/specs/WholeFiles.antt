@@ -1,5 +1,6 @@
 -- A file that is read whole.
-use Rattle.std.specs.Prelude.{◌≡◌, ℕ, ◌<◌, ◌≤◌, Bool, true, false, List, length, take, Option, None, Some, option_and_then, option_map, Result, Ok, Err}
+use Rattle.std.specs.Prelude.{◌≡◌, ℕ, ◌<◌, ◌≤◌, Bool, true, false, List, length, take, Option, None, Some}
+use Rattle.std.specs.Prelude.{option_and_then, option_map, Result, Ok, Err}
 use Rattle.sccs_base.specs.Constants.{file_limit}
 use Rattle.sccs_disk.specs.Files.{Content, View}
 use Rattle.sccs_name_files.specs.declared.whole_files.WholeFault.{WholeFault}

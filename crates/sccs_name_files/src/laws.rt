@@ -2,11 +2,13 @@ ghost use Rattle.std.specs.Prelude.{◌≡◌, ◌⊎◌, ℕ, Bool, false, List
 ghost use Rattle.std.specs.Str.{bytes_eq};
 ghost use Rattle.sccs_base.specs.declared.streams.Failed.{Failed};
 ghost use Rattle.sccs_disk.specs.Calls.{Changes, Creates, Done, Half, Writes};
-ghost use Rattle.sccs_disk.specs.Effects.{appending, changed, created, creating, overwriting, pended, protecting, removing, settled, synced, syncing};
+ghost use Rattle.sccs_disk.specs.Effects.{appending, changed, created, creating, overwriting, pended, protecting};
+ghost use Rattle.sccs_disk.specs.Effects.{removing, settled, synced, syncing};
 ghost use Rattle.sccs_disk.specs.Files.{File, IsSane, Model, Op, Rename, View, view_of};
 ghost use Rattle.sccs_disk.specs.Images.{Full, Image, IsFirm, IsOwn};
 ghost use Rattle.sccs_disk.specs.Told.{Told};
-ghost use Rattle.sccs_name_files.specs.Touches.{Grew, IsBut, Leaves, TellsSane, Touches, TouchesOnly, Touching, WritesOnly};
+ghost use Rattle.sccs_name_files.specs.Touches.{Grew, IsBut, Leaves, TellsSane, Touches, TouchesOnly, Touching};
+ghost use Rattle.sccs_name_files.specs.Touches.{WritesOnly};
 
 use sccs_disk::{Creation, DiskRefusal};
 

@@ -1,4 +1,5 @@
-ghost use Rattle.std.specs.Prelude.{◌≡◌, ◌≢◌, ◌<◌, ◌≤◌, ◌+◌, ℕ, List, Some, Ok, Err, true, length, IfOk, IfSome, IsErrOf};
+ghost use Rattle.std.specs.Prelude.{◌≡◌, ◌≢◌, ◌<◌, ◌≤◌, ◌+◌, ℕ, List, Some, Ok, Err, true, length, IfOk, IfSome};
+ghost use Rattle.std.specs.Prelude.{IsErrOf};
 ghost use Rattle.sccs_base.specs.Constants.{file_limit};
 ghost use Rattle.sccs_base.specs.Stream.{Rose};
 ghost use Rattle.sccs_disk.specs.Files.{View};
@@ -33,7 +34,8 @@ fn read_more<D: Disk>(
     requires short { length all.old.items ≤ file_limit }
     requires room { 0 < length piece.old }
     ensures bound { length all.new.items ≤ file_limit }
-    ensures told { (bytes : List ℕ) → file_bytes (seen (D.told disk.old)) name.now ≡ Some bytes → ReadsToEnd bytes all.old.items all.new.items result }
+    ensures told { (bytes : List ℕ) → file_bytes (seen (D.told disk.old)) name.now ≡ Some bytes
+        → ReadsToEnd bytes all.old.items all.new.items result }
     ensures further { result ≡ Ok true → length all.old.items + 1 ≤ length all.new.items }
     ensures same { D.told disk.new ≡ D.told disk.old }
     ensures later { D.faults disk.old ≤ D.faults disk.new }

@@ -51,7 +51,8 @@ fn in_order(alloc: Global, kept: NameSet) -> Result<Words, Memory>
 
 /// The names of the s-files that are there, each once, in byte order.
 pub fn list_sfiles<D: Disk>(alloc: Global, disk: &mut D) -> Result<Words, DiskRefusal>
-    ensures told { IfSome (seen (D.told disk.old)) (λ (v : View). (m : Folder) → HasSfilesOf v m → IfOk result (λ names. names ≡ sfiles_in m)) }
+    ensures told { IfSome (seen (D.told disk.old)) (λ (v : View). (m : Folder) → HasSfilesOf v m
+        → IfOk result (λ names. names ≡ sfiles_in m)) }
     ensures names { IfOk result AreSfiles }
     ensures same { D.told disk.new ≡ D.told disk.old }
     ensures causes { DiskCauses (IsErrOf result DiskRefusal.Failed) (D.faults disk.old) (D.faults disk.new) }

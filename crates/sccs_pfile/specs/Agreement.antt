@@ -1,5 +1,6 @@
 -- When the entries of a p-file and a delta table agree (own).
-use Rattle.std.specs.Prelude.{◌≡◌, ℕ, suc, ◌==◌, Bool, true, not, ◌&&◌, List, length, filter, is_none, position, Option, option_map}
+use Rattle.std.specs.Prelude.{◌≡◌, ℕ, suc, ◌==◌, Bool, true, not, ◌&&◌, List, length, filter, is_none, position, Option}
+use Rattle.std.specs.Prelude.{option_map}
 use Rattle.std.specs.List.{AllByRecursion, list_all, list_any}
 use Rattle.sccs_sid.specs.declared.sids.Sid.{Sid}
 use Rattle.sccs_sid.specs.declared.sid_lists.Range.{Range}
@@ -30,7 +31,8 @@ has_lists records e =
 abbrev pub makers : List Edit → Sid → ℕ
 makers edits sid = length (filter (λ e. same_sid sid e.made) edits)
 
--- an entry agrees: its SID got is live, its SID to be made is neither live nor that of another entry, and its lists are fine
+-- an entry agrees: its SID got is live, its SID to be made is neither live nor that of another entry, and its lists are
+-- fine
 abbrev pub agrees : List Record → List Edit → Edit → Bool
 agrees records edits e =
     lives records e.got && (not (lives records e.made) && (makers edits e.made == 1 && has_lists records e))

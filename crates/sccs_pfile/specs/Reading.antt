@@ -1,6 +1,9 @@
--- What the bytes of a p-file say (System V, p-file; POSIX, get -e): one line for each entry, of the SID that was got, the
--- SID that is to be made, login, date and time, and the lists of -i and -x where they were given. How lines are read that
--- this suite doesn't write is own: one or more blanks stand between two parts, blanks may stand at the end and none at the
+-- What the bytes of a p-file say (System V, p-file; POSIX, get -e): one line for each entry, of the SID that was got,
+-- the
+-- SID that is to be made, login, date and time, and the lists of -i and -x where they were given. How lines are read
+-- that
+-- this suite doesn't write is own: one or more blanks stand between two parts, blanks may stand at the end and none at
+-- the
 -- start, each list stands at most once, in any order, and each line ends with LF.
 use Rattle.std.specs.Prelude.{◌≡◌, ℕ, ◌+◌, ◌==◌, List, [], ◌∷◌, Option, Some, None, Result, Ok, Err, if◌then◌else◌}
 use Rattle.sccs_base.specs.Cut.{cut}
@@ -49,7 +52,8 @@ with_options e (word ∷ words) = with_option e word >>= with_last words
 
 -- the entry of words
 unfoldable pub entry_of_words : List (List ℕ) → Option Edit
-entry_of_words (got ∷ made ∷ login ∷ date ∷ time ∷ options) = without_lists got made login date time >>= λ e. with_options e options
+entry_of_words (got ∷ made ∷ login ∷ date ∷ time ∷ options) = without_lists got made login date time
+    >>= λ e. with_options e options
 entry_of_words _ = None
 
 -- the entry of a line without its LF

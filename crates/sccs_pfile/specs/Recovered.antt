@@ -1,6 +1,8 @@
--- The p-file that recovery leaves (own): a delta that was stopped behind the change of its s-file has its SID in the table
+-- The p-file that recovery leaves (own): a delta that was stopped behind the change of its s-file has its SID in the
+-- table
 -- and its entry in the p-file still. So the entries whose SID to be made is live leave the p-file.
-use Rattle.std.specs.Prelude.{ℕ, Bool, true, not, List, [], ◌∷◌, filter, Option, None, Some, option_map, Result, Ok, Err, if◌then◌else◌}
+use Rattle.std.specs.Prelude.{ℕ, Bool, true, not, List, [], ◌∷◌, filter, Option, None, Some, option_map, Result, Ok}
+use Rattle.std.specs.Prelude.{Err, if◌then◌else◌}
 use Rattle.std.specs.List.{list_any}
 use Rattle.sccs_disk.specs.Files.{Content}
 use Rattle.sccs_sid.specs.Words.{found}
@@ -34,14 +36,16 @@ table_of bytes = option_map (λ f. f.header.records) (found (unsummed_file bytes
 
 -- the same file where no entry leaves it, else the p-file of the others
 abbrev pub entries_dropped : List Record → List Edit → Content → Option Content
-entries_dropped records edits p = if list_any (is_done records) edits then pfile_of (without_done records edits) else Some p
+entries_dropped records edits p = if list_any (is_done records) edits then pfile_of (without_done records edits)
+    else Some p
 
 abbrev pub recovered_by : Option (List Record) → Result (List Edit) ℕ → Content → Option Content
 recovered_by None read p = Some p
 recovered_by (Some records) (Err line) p = Some p
 recovered_by (Some records) (Ok edits) p = entries_dropped records edits p
 
--- The p-file that recovery leaves of an s-file and a p-file: without the entries whose delta is made. Where one of the two
+-- The p-file that recovery leaves of an s-file and a p-file: without the entries whose delta is made. Where one of the
+-- two
 -- isn't there or can't be read it is as it was.
 abbrev pub recovered_pfile : Option Content → Option Content → Option Content
 recovered_pfile s None = None

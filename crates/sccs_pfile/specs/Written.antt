@@ -22,7 +22,9 @@ exclude_option = 32 ∷ 45 ∷ 120 ∷ []
 -- the line of an entry, with one blank between two parts
 abbrev pub entry_text : Edit → List ℕ
 entry_text e =
-    sid_text e.got ++ (32 ∷ sid_text e.made ++ (32 ∷ e.login ++ (32 ∷ moment_text e.moment ++ (option_text include_option e.include ++ option_text exclude_option e.exclude))))
+    sid_text e.got ++ (32 ∷ sid_text e.made
+    ++ (32 ∷ e.login ++ (32 ∷ moment_text e.moment ++ (option_text include_option e.include
+    ++ option_text exclude_option e.exclude))))
 
 -- the lines of entries, each with its LF
 abbrev pub edits_text : List Edit → List ℕ

@@ -1,9 +1,11 @@
-ghost use Rattle.std.specs.Prelude.{◌≡◌, ◌↔◌, ◌==◌, not, true, false, None, Some, position, IfOk, IfSome, IsOk, MatchResult};
+ghost use Rattle.std.specs.Prelude.{◌≡◌, ◌↔◌, ◌==◌, not, true, false, None, Some, position, IfOk, IfSome, IsOk};
+ghost use Rattle.std.specs.Prelude.{MatchResult};
 ghost use Rattle.sccs_history.specs.History.{lives, same_sid};
 ghost use Rattle.sccs_pfile.specs.LiveSets.{HasLive};
 ghost use Rattle.sccs_pfile.specs.Lookups.{HasLookups};
 ghost use Rattle.sccs_pfile.specs.MadeSids.{HasMakers};
-ghost use Rattle.sccs_pfile.specs.Agreement.{Agrees, agrees, are_ranges, first_disagreeing, has_lists, is_listed, makers, share_sid};
+ghost use Rattle.sccs_pfile.specs.Agreement.{Agrees, agrees, are_ranges, first_disagreeing, has_lists, is_listed};
+ghost use Rattle.sccs_pfile.specs.Agreement.{makers, share_sid};
 
 use crate::entries::{Edit, Edits};
 use crate::live_sets::{LiveSet, find_live, has_live};

@@ -1,5 +1,6 @@
 //! Laws: what the definitions of this crate say together. Each is proved of all values.
-ghost use Rattle.std.specs.Prelude.{◌≡◌, ◌++◌, ◌∷◌, ◌||◌, [], ℕ, Bool, true, List, Option, Some, Ok, All, map, remove, slice_get};
+ghost use Rattle.std.specs.Prelude.{◌≡◌, ◌++◌, ◌∷◌, ◌||◌, [], ℕ, Bool, true, List, Option, Some, Ok, All, map, remove};
+ghost use Rattle.std.specs.Prelude.{slice_get};
 ghost use Rattle.sccs_disk.specs.Files.{Content};
 ghost use Rattle.sccs_sid.specs.declared.sids.Sid.{Sid};
 ghost use Rattle.sccs_sid.specs.declared.sids.Spec.{Spec};

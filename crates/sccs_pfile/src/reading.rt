@@ -1,8 +1,11 @@
-ghost use Rattle.std.specs.Prelude.{◌≡◌, ◌<◌, ◌+◌, ◌∷◌, [], None, Some, Err, length, All, IfOk, IfSome, MatchOption, MatchResult};
+ghost use Rattle.std.specs.Prelude.{◌≡◌, ◌<◌, ◌+◌, ◌∷◌, [], None, Some, Err, length, All, IfOk, IfSome, MatchOption};
+ghost use Rattle.std.specs.Prelude.{MatchResult};
 ghost use Rattle.sccs_sid.specs.SidLists.{IsRange};
 ghost use Rattle.sccs_sid.specs.Words.{words};
 ghost use Rattle.sccs_pfile.specs.Entries.{IsEdit};
-ghost use Rattle.sccs_pfile.specs.Reading.{ReadsEdits, edits_of, entries_at, entry_of, entry_of_words, edits_with_entry, with_last, edit_with_list, with_option, with_options, without_lists};
+ghost use Rattle.sccs_pfile.specs.Reading.{ReadsEdits, edits_of, entries_at, entry_of, entry_of_words};
+ghost use Rattle.sccs_pfile.specs.Reading.{edits_with_entry, with_last, edit_with_list, with_option, with_options};
+ghost use Rattle.sccs_pfile.specs.Reading.{without_lists};
 
 use crate::entries::{Edit, Edits, PfileFault};
 use sccs_base::{LF, Login, Memory};

@@ -44,7 +44,8 @@ fn put_ranges<D: Disk>(
     disk: &mut D,
 ) -> Result<(), DiskRefusal>
     requires { IsThere out.old.name (D.told disk.old) }
-    ensures { PutsText (flat_map (λ r. 44 ∷ range_text r) ranges.now) out.old out.new (D.told disk.old) (D.told disk.new)
+    ensures { PutsText (flat_map (λ r. 44 ∷ range_text r) ranges.now) out.old out.new (D.told disk.old)
+        (D.told disk.new)
         (D.faults disk.old) (D.faults disk.new) result }
 {
     for range in ranges {
@@ -91,7 +92,8 @@ fn put_lists<D: Disk>(edit: &Edit, out: &mut PieceWriter, disk: &mut D) -> Resul
 fn put_front<D: Disk>(edit: &Edit, out: &mut PieceWriter, disk: &mut D) -> Result<(), DiskRefusal>
     requires there { IsThere out.old.name (D.told disk.old) }
     requires edit { IsEdit edit.now }
-    ensures { PutsText (sid_text edit.now.got ++ (32 ∷ sid_text edit.now.made ++ (32 ∷ edit.now.login ++ (32 ∷ moment_text edit.now.moment))))
+    ensures { PutsText (sid_text edit.now.got ++ (32 ∷ sid_text edit.now.made
+        ++ (32 ∷ edit.now.login ++ (32 ∷ moment_text edit.now.moment))))
         out.old out.new (D.told disk.old) (D.told disk.new) (D.faults disk.old) (D.faults disk.new) result }
 {
     let (mut got, mut made) = ([0; DETAIL_ROOM], [0; DETAIL_ROOM]);

@@ -53,7 +53,8 @@ pub record Gave (lines : List HistoryLine) (g g2 : Giving) (a b : Option (List �
 -- ---- of a file that is told
 
 -- Some of the lines were given, and the reader stands before the others.
-pub record Moved (file : List ℕ) (r : VersionPlace) (lines : List HistoryLine) (g g2 : Giving) (a b : Option (List ℕ)) : Type 0 where
+pub record Moved (file : List ℕ) (r : VersionPlace) (lines : List HistoryLine) (g g2 : Giving)
+    (a b : Option (List ℕ)) : Type 0 where
   pub gone : List HistoryLine
   pub rest : List HistoryLine
   pub whole : lines ≡ gone ++ rest
@@ -62,28 +63,33 @@ pub record Moved (file : List ℕ) (r : VersionPlace) (lines : List HistoryLine)
 
 -- the text of the lines was cut
 abbrev pub CutsLines : List HistoryLine → StepFault → Giving → Giving → Option (List ℕ) → Option (List ℕ) → Type 0
-CutsLines lines fault g g2 a b = GivesTo {T = Unit {0}} (file_of g.target) (text_next g lines) (Err fault) (held_back g.target) (held_back g2.target) a b
+CutsLines lines fault g g2 a b = GivesTo {T = Unit {0}} (file_of g.target) (text_next g lines) (Err fault)
+    (held_back g.target) (held_back g2.target) a b
 
 -- what a turn that gives some lines answers
-abbrev pub GivesRun : List ℕ → VersionPlace → List HistoryLine → Result (Unit {0}) StepFault → Giving → Giving → Option (List ℕ) → Option (List ℕ) → Type 0
+abbrev pub GivesRun : List ℕ → VersionPlace → List HistoryLine → Result (Unit {0}) StepFault → Giving → Giving
+    → Option (List ℕ) → Option (List ℕ) → Type 0
 GivesRun file r lines (Ok done) g g2 a b = Moved file r lines g g2 a b
 GivesRun file r lines (Err fault) g g2 a b = CutsLines lines fault g g2 a b
 
 -- the same of the next line, or of the end
-abbrev pub GivesMore : List ℕ → VersionPlace → List HistoryLine → Result Bool StepFault → Giving → Giving → Option (List ℕ) → Option (List ℕ) → Type 0
+abbrev pub GivesMore : List ℕ → VersionPlace → List HistoryLine → Result Bool StepFault → Giving → Giving
+    → Option (List ℕ) → Option (List ℕ) → Type 0
 GivesMore file r lines (Ok true) g g2 a b = Moved file r lines g g2 a b
 GivesMore file r lines (Ok false) g g2 a b = Gave lines g g2 a b
 GivesMore file r lines (Err fault) g g2 a b = CutsLines lines fault g g2 a b
 
 -- the same of all lines
-abbrev pub GivesAll : List HistoryLine → Result (Unit {0}) StepFault → Giving → Giving → Option (List ℕ) → Option (List ℕ) → Type 0
+abbrev pub GivesAll : List HistoryLine → Result (Unit {0}) StepFault → Giving → Giving → Option (List ℕ)
+    → Option (List ℕ) → Type 0
 GivesAll lines (Ok done) g g2 a b = Gave lines g g2 a b
 GivesAll lines (Err fault) g g2 a b = CutsLines lines fault g g2 a b
 
 -- ---- over any disk
 
 -- Some of what was read was given, and the reader stands behind it.
-pub record ReadSome (live : List ℕ) (r : VersionPlace) (before : List Item) (g g2 : Giving) (a b : Option (List ℕ)) : Type 0 where
+pub record ReadSome (live : List ℕ) (r : VersionPlace) (before : List Item) (g g2 : Giving)
+    (a b : Option (List ℕ)) : Type 0 where
   pub items : List Item
   pub read : HasRead live r items
   pub gone : List HistoryLine
@@ -100,7 +106,8 @@ pub record ReadWhole (live set : List ℕ) (before : List Item) (g g2 : Giving) 
   pub gave : Gave gone g g2 a b
 
 -- what was read and given by a turn that answers whether more is to come
-abbrev pub ReadsMore : List ℕ → VersionPlace → List Item → Result Bool StepFault → Giving → Giving → Option (List ℕ) → Option (List ℕ) → Type 0
+abbrev pub ReadsMore : List ℕ → VersionPlace → List Item → Result Bool StepFault → Giving → Giving → Option (List ℕ)
+    → Option (List ℕ) → Type 0
 ReadsMore live r before (Ok true) g g2 a b = ReadSome live r before g g2 a b
 ReadsMore live r before (Ok false) g g2 a b = ReadWhole live r.set before g g2 a b
 ReadsMore live r before (Err fault) g g2 a b = Unit {0}

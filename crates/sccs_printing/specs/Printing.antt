@@ -45,7 +45,8 @@ IsFaultAroundPrint WriteFault = ⊥
 IsFaultAroundPrint (Refused refusal) = ⊥
 
 -- Over any disk: some items are a whole body over live serials, and the text of what the set shows of them was given.
-pub record PrintsWhole (form : LineForm) (records : List Record) (set : List ℕ) (shown : Shown) (a b : Option (List ℕ)) : Type 0 where
+pub record PrintsWhole (form : LineForm) (records : List Record) (set : List ℕ) (shown : Shown)
+    (a b : Option (List ℕ)) : Type 0 where
   pub items : List Item
   pub stood : Stood (live_serials records) items
   pub over : is_over items ≡ true
@@ -64,14 +65,19 @@ abbrev pub finished_text : Mode → List ℕ → Content
 finished_text mode text = record { bytes = text; writable = may_write mode }
 
 -- it was made, with this text; of a told file only the disk or memory can keep it from that
-abbrev pub Makes : List ℕ → Mode → List ℕ → LineForm → List HistoryLine → Option View → Option View → Result Shown StepFault → Type 0
-Makes n mode text form lines old new (Ok shown) = Becomes (λ v. put v n (Some (finished_text mode text))) old new × (shown ≡ shown_of form lines)
+abbrev pub Makes : List ℕ → Mode → List ℕ → LineForm → List HistoryLine → Option View → Option View
+    → Result Shown StepFault → Type 0
+Makes n mode text form lines old new (Ok shown) = Becomes (λ v. put v n (Some (finished_text mode text))) old new
+    × (shown ≡ shown_of form lines)
 Makes n mode text form lines old new (Err fault) = IsFaultAroundPrint fault
 
--- Over any disk: some items are a whole body over live serials, and the y-file has the text of what the set shows of them.
-pub record MakesWhole (n : List ℕ) (mode : Mode) (form : LineForm) (records : List Record) (set : List ℕ) (shown : Shown) (new : Option View) : Type 0 where
+-- Over any disk: some items are a whole body over live serials, and the y-file has the text of what the set shows of
+-- them.
+pub record MakesWhole (n : List ℕ) (mode : Mode) (form : LineForm) (records : List Record) (set : List ℕ)
+    (shown : Shown) (new : Option View) : Type 0 where
   pub items : List Item
   pub stood : Stood (live_serials records) items
   pub over : is_over items ≡ true
-  pub made : IfSome new (λ (v : View). v n ≡ Some (finished_text mode (version_text form records (shown_before set items))))
+  pub made : IfSome new (λ (v : View). v n ≡ Some
+      (finished_text mode (version_text form records (shown_before set items))))
   pub counted : shown ≡ shown_of form (shown_before set items)

@@ -1,5 +1,6 @@
 -- Where a text goes: to a sink, or into a file, whose name then says where. Some of it may be held back.
-use Rattle.std.specs.Prelude.{◌≡◌, ◌≢◌, ℕ, ◌≤◌, Bool, false, List, [], ◌++◌, length, take, Option, None, Some, option_map, option_and_then, Result, Ok, Err, OnOk}
+use Rattle.std.specs.Prelude.{◌≡◌, ◌≢◌, ℕ, ◌≤◌, Bool, false, List, [], ◌++◌, length, take, Option, None, Some}
+use Rattle.std.specs.Prelude.{option_map, option_and_then, Result, Ok, Err, OnOk}
 use Rattle.std.specs.Str.{bytes_eq}
 use Rattle.sccs_base.specs.Stream.{Buffers, GivesOk, GivesSome, Rose}
 use Rattle.sccs_disk.specs.Calls.{IsThere}
@@ -77,7 +78,8 @@ Cuts file text ReadFault held held2 a b = ⊥
 Cuts file text (Refused refusal) held held2 a b = ⊥
 
 -- all of it was given, or it was cut
-abbrev pub GivesTo : {T : Type 0} → Option (List ℕ) → List ℕ → Result T StepFault → List ℕ → List ℕ → Option (List ℕ) → Option (List ℕ) → Type 0
+abbrev pub GivesTo : {T : Type 0} → Option (List ℕ) → List ℕ → Result T StepFault → List ℕ → List ℕ → Option (List ℕ)
+    → Option (List ℕ) → Type 0
 GivesTo file text (Ok x) held held2 a b = Buffers held text held2 a b
 GivesTo file text (Err fault) held held2 a b = Cuts file text fault held held2 a b
 
@@ -94,16 +96,19 @@ abbrev pub Spares : {T : Type 0} → Option (List ℕ) → Result T StepFault �
 Spares file (Ok x) = Unit {0}
 Spares file (Err fault) = SparesSink file fault
 
--- A target that a text may be given to from its start: it holds nothing back, and a target file is there and another than the one
+-- A target that a text may be given to from its start: it holds nothing back, and a target file is there and another
+-- than the one
 -- that is read.
 pub record IsFreshTarget (target : Target) (read : List ℕ) (told : Told) : Type 0 where
   pub empty : held_back target ≡ []
   pub there : CanTake (file_of target) told
   pub apart : IsApart (file_of target) read
 
--- What a call leaves that gives text to a target: at most that gets something, no other sink fails, and no check but those of a file
+-- What a call leaves that gives text to a target: at most that gets something, no other sink fails, and no check but
+-- those of a file
 -- that is read.
-pub record UsesTarget {O D T : Type 0} (file : Option (List ℕ)) (given : O → Option (List ℕ)) (out_faults : O → ℕ) (told : D → Told) (faults : D → ℕ) (out out2 : O) (disk disk2 : D) (result : Result T StepFault) : Type 0 where
+pub record UsesTarget {O D T : Type 0} (file : Option (List ℕ)) (given : O → Option (List ℕ)) (out_faults : O → ℕ)
+    (told : D → Told) (faults : D → ℕ) (out out2 : O) (disk disk2 : D) (result : Result T StepFault) : Type 0 where
   pub reaches : Reaches file (given out) (given out2) (told disk) (told disk2)
   pub mark : OnOk result (KeepsTargetMark file (told disk) (told disk2))
   pub spares : Spares file result
@@ -122,13 +127,16 @@ IsCut (Some n) text WriteFault a b = ⊥
 IsCut file text ReadFault a b = ⊥
 IsCut file text (Refused refusal) a b = ⊥
 
-abbrev pub Prints : {T : Type 0} → Option (List ℕ) → List ℕ → Result T StepFault → Option (List ℕ) → Option (List ℕ) → Type 0
+abbrev pub Prints : {T : Type 0} → Option (List ℕ) → List ℕ → Result T StepFault → Option (List ℕ) → Option (List ℕ)
+    → Type 0
 Prints file text (Ok x) a b = GivesOk a b text
 Prints file text (Err fault) a b = IsCut file text fault a b
 
--- What a call leaves that appends text to a file alone: at most that is another, no stream fails, and no check but those of a file that
+-- What a call leaves that appends text to a file alone: at most that is another, no stream fails, and no check but
+-- those of a file that
 -- is read.
-pub record WritesText {T : Type 0} (n : List ℕ) (old new : Told) (faults faults_after : ℕ) (result : Result T StepFault) : Type 0 where
+pub record WritesText {T : Type 0} (n : List ℕ) (old new : Told) (faults faults_after : ℕ)
+    (result : Result T StepFault) : Type 0 where
   pub only : OnlyWrites n old new
   pub mark : OnOk result (KeepsTargetMark (Some n) old new)
   pub checks : RefusesWithin file_checks result

@@ -1,4 +1,5 @@
-ghost use Rattle.std.specs.Prelude.{◌≡◌, ◌≢◌, ◌<◌, ◌≤◌, ◌+◌, ◌^◌, ℕ, List, [], ◌∷◌, true, false, Some, length, IfOk, OnOk};
+ghost use Rattle.std.specs.Prelude.{◌≡◌, ◌≢◌, ◌<◌, ◌≤◌, ◌+◌, ◌^◌, ℕ, List, [], ◌∷◌, true, false, Some, length, IfOk};
+ghost use Rattle.std.specs.Prelude.{OnOk};
 ghost use Rattle.sccs_base.specs.Cut.{cut};
 ghost use Rattle.sccs_disk.specs.Told.{seen};
 ghost use Rattle.sccs_history.specs.Applied.{serials_of};
@@ -13,7 +14,8 @@ ghost use Rattle.sccs_versions.specs.Coming.{Coming};
 ghost use Rattle.sccs_versions.specs.Place.{name_of, steps_to_end};
 ghost use Rattle.sccs_versions.specs.WasRead.{HasRead};
 ghost use Rattle.sccs_printing.specs.Counted.{with_lines, no_lines};
-ghost use Rattle.sccs_printing.specs.Giving.{CanGive, GivesAll, GivesMore, GivesRun, KeepsForm, KeepsGiving, KeepsVersion, ReadSome, ReadWhole, ReadsMore, giving_form};
+ghost use Rattle.sccs_printing.specs.Giving.{CanGive, GivesAll, GivesMore, GivesRun, KeepsForm, KeepsGiving};
+ghost use Rattle.sccs_printing.specs.Giving.{KeepsVersion, ReadSome, ReadWhole, ReadsMore, giving_form};
 ghost use Rattle.sccs_printing.specs.Targets.{CanTake, GivesTo, IsApart, UsesTarget, file_of, target_bytes, held_back};
 
 use crate::shown::Shown;
@@ -74,9 +76,13 @@ impl<'a> Giving<'a> {
         requires can { CanGive self.old (D.told disk.old) }
         requires whole { (cut lines.now).tail ≡ [] }
         requires few { self.old.shown.lines + length (cut lines.now).lines < 2 ^ 64 }
-        ensures frame { UsesTarget (file_of self.old.target) O.given O.faults D.told D.faults out.old out.new disk.old disk.new result }
-        ensures gives { GivesTo (file_of self.old.target) (formed_lines (giving_form self.old) self.old.sids (self.old.shown.lines + 1) inserter (cut lines.now).lines) result (held_back self.old.target) (held_back self.new.target)
-            (target_bytes (file_of self.old.target) (O.given out.old) (D.told disk.old)) (target_bytes (file_of self.old.target) (O.given out.new) (D.told disk.new)) }
+        ensures frame { UsesTarget (file_of self.old.target) O.given O.faults D.told D.faults out.old out.new disk.old
+            disk.new result }
+        ensures gives { GivesTo (file_of self.old.target) (formed_lines (giving_form self.old) self.old.sids
+            (self.old.shown.lines + 1) inserter (cut lines.now).lines) result (held_back self.old.target)
+            (held_back self.new.target)
+            (target_bytes (file_of self.old.target) (O.given out.old) (D.told disk.old))
+            (target_bytes (file_of self.old.target) (O.given out.new) (D.told disk.new)) }
         ensures keeps { KeepsGiving self.old self.new }
     {
         self.formed.clear();
@@ -106,10 +112,15 @@ impl<'a> Giving<'a> {
         requires can { CanGive self.old (D.told disk.old) }
         requires whole { (cut lines.now).tail ≡ [] }
         requires few { self.old.shown.lines + length (cut lines.now).lines < 2 ^ 64 }
-        requires same { changes ≡ false → (n : ℕ) → formed_lines (giving_form self.old) self.old.sids (self.old.shown.lines + 1) n (cut lines.now).lines ≡ lines.now }
-        ensures frame { UsesTarget (file_of self.old.target) O.given O.faults D.told D.faults out.old out.new disk.old disk.new result }
-        ensures gives { GivesTo (file_of self.old.target) (formed_lines (giving_form self.old) self.old.sids (self.old.shown.lines + 1) inserter (cut lines.now).lines) result (held_back self.old.target) (held_back self.new.target)
-            (target_bytes (file_of self.old.target) (O.given out.old) (D.told disk.old)) (target_bytes (file_of self.old.target) (O.given out.new) (D.told disk.new)) }
+        requires same { changes ≡ false → (n : ℕ) → formed_lines (giving_form self.old) self.old.sids
+            (self.old.shown.lines + 1) n (cut lines.now).lines ≡ lines.now }
+        ensures frame { UsesTarget (file_of self.old.target) O.given O.faults D.told D.faults out.old out.new disk.old
+            disk.new result }
+        ensures gives { GivesTo (file_of self.old.target) (formed_lines (giving_form self.old) self.old.sids
+            (self.old.shown.lines + 1) inserter (cut lines.now).lines) result (held_back self.old.target)
+            (held_back self.new.target)
+            (target_bytes (file_of self.old.target) (O.given out.old) (D.told disk.old))
+            (target_bytes (file_of self.old.target) (O.given out.new) (D.told disk.new)) }
         ensures keeps { KeepsGiving self.old self.new }
     {
         if changes {
@@ -131,9 +142,13 @@ impl<'a> Giving<'a> {
         requires can { CanGive self.old (D.told disk.old) }
         requires counted { more ≡ lf_count lines.now }
         requires whole { (cut lines.now).tail ≡ [] }
-        ensures frame { UsesTarget (file_of self.old.target) O.given O.faults D.told D.faults out.old out.new disk.old disk.new result }
-        ensures gives { GivesTo (file_of self.old.target) (formed_lines (giving_form self.old) self.old.sids (self.old.shown.lines + 1) inserter (cut lines.now).lines) result (held_back self.old.target) (held_back self.new.target)
-            (target_bytes (file_of self.old.target) (O.given out.old) (D.told disk.old)) (target_bytes (file_of self.old.target) (O.given out.new) (D.told disk.new)) }
+        ensures frame { UsesTarget (file_of self.old.target) O.given O.faults D.told D.faults out.old out.new disk.old
+            disk.new result }
+        ensures gives { GivesTo (file_of self.old.target) (formed_lines (giving_form self.old) self.old.sids
+            (self.old.shown.lines + 1) inserter (cut lines.now).lines) result (held_back self.old.target)
+            (held_back self.new.target)
+            (target_bytes (file_of self.old.target) (O.given out.old) (D.told disk.old))
+            (target_bytes (file_of self.old.target) (O.given out.new) (D.told disk.new)) }
         ensures shown { OnOk result (self.new.shown
             ≡ with_lines (giving_form self.old) self.old.shown (cut lines.now).lines) }
         ensures keeps { KeepsForm self.old self.new }
@@ -161,9 +176,12 @@ impl<'a> Giving<'a> {
         disk: &mut D,
     ) -> Result<(), StepFault>
         requires can { CanGive self.old (D.told disk.old) }
-        ensures frame { UsesTarget (file_of self.old.target) O.given O.faults D.told D.faults out.old out.new disk.old disk.new result }
-        ensures gives { GivesTo (file_of self.old.target) (formed_lines (giving_form self.old) self.old.sids number inserter (line.now ∷ [])) result (held_back self.old.target) (held_back self.new.target)
-            (target_bytes (file_of self.old.target) (O.given out.old) (D.told disk.old)) (target_bytes (file_of self.old.target) (O.given out.new) (D.told disk.new)) }
+        ensures frame { UsesTarget (file_of self.old.target) O.given O.faults D.told D.faults out.old out.new disk.old
+            disk.new result }
+        ensures gives { GivesTo (file_of self.old.target) (formed_lines (giving_form self.old) self.old.sids number
+            inserter (line.now ∷ [])) result (held_back self.old.target) (held_back self.new.target)
+            (target_bytes (file_of self.old.target) (O.given out.old) (D.told disk.old))
+            (target_bytes (file_of self.old.target) (O.given out.new) (D.told disk.new)) }
         ensures keeps { KeepsGiving self.old self.new }
     {
         self.formed.clear();
@@ -191,10 +209,14 @@ impl<'a> Giving<'a> {
         disk: &mut D,
     ) -> Result<(), StepFault>
         requires can { CanGive self.old (D.told disk.old) }
-        requires same { changes ≡ false → formed_lines (giving_form self.old) self.old.sids number inserter (line.now ∷ []) ≡ ended line.now }
-        ensures frame { UsesTarget (file_of self.old.target) O.given O.faults D.told D.faults out.old out.new disk.old disk.new result }
-        ensures gives { GivesTo (file_of self.old.target) (formed_lines (giving_form self.old) self.old.sids number inserter (line.now ∷ [])) result (held_back self.old.target) (held_back self.new.target)
-            (target_bytes (file_of self.old.target) (O.given out.old) (D.told disk.old)) (target_bytes (file_of self.old.target) (O.given out.new) (D.told disk.new)) }
+        requires same { changes ≡ false → formed_lines (giving_form self.old) self.old.sids number inserter
+            (line.now ∷ []) ≡ ended line.now }
+        ensures frame { UsesTarget (file_of self.old.target) O.given O.faults D.told D.faults out.old out.new disk.old
+            disk.new result }
+        ensures gives { GivesTo (file_of self.old.target) (formed_lines (giving_form self.old) self.old.sids number
+            inserter (line.now ∷ [])) result (held_back self.old.target) (held_back self.new.target)
+            (target_bytes (file_of self.old.target) (O.given out.old) (D.told disk.old))
+            (target_bytes (file_of self.old.target) (O.given out.new) (D.told disk.new)) }
         ensures keeps { KeepsGiving self.old self.new }
     {
         if changes {
@@ -213,9 +235,13 @@ impl<'a> Giving<'a> {
         disk: &mut D,
     ) -> Result<(), StepFault>
         requires can { CanGive self.old (D.told disk.old) }
-        ensures frame { UsesTarget (file_of self.old.target) O.given O.faults D.told D.faults out.old out.new disk.old disk.new result }
-        ensures gives { GivesTo (file_of self.old.target) (formed_lines (giving_form self.old) self.old.sids (self.old.shown.lines + 1) inserter (line.now ∷ [])) result (held_back self.old.target) (held_back self.new.target)
-            (target_bytes (file_of self.old.target) (O.given out.old) (D.told disk.old)) (target_bytes (file_of self.old.target) (O.given out.new) (D.told disk.new)) }
+        ensures frame { UsesTarget (file_of self.old.target) O.given O.faults D.told D.faults out.old out.new disk.old
+            disk.new result }
+        ensures gives { GivesTo (file_of self.old.target) (formed_lines (giving_form self.old) self.old.sids
+            (self.old.shown.lines + 1) inserter (line.now ∷ [])) result (held_back self.old.target)
+            (held_back self.new.target)
+            (target_bytes (file_of self.old.target) (O.given out.old) (D.told disk.old))
+            (target_bytes (file_of self.old.target) (O.given out.new) (D.told disk.new)) }
         ensures shown { OnOk result (self.new.shown
             ≡ with_lines (giving_form self.old) self.old.shown (line.now ∷ [])) }
         ensures keeps { KeepsForm self.old self.new }
@@ -242,14 +268,19 @@ fn give_run<O: Sink, D: Disk>(
     disk: &mut D,
 ) -> Result<(), StepFault>
     requires can { CanGive giving.old (D.told disk.old) }
-    ensures frame { UsesTarget (file_of giving.old.target) O.given O.faults D.told D.faults out.old out.new disk.old disk.new result }
+    ensures frame { UsesTarget (file_of giving.old.target) O.given O.faults D.told D.faults out.old out.new disk.old
+        disk.new result }
     ensures keeps { KeepsForm giving.old giving.new }
     ensures version { KeepsVersion version.old version.new }
     ensures left { steps_to_end version.new ≤ steps_to_end version.old }
     ensures gives { (file : List ℕ) (lines : List HistoryLine) → Coming file version.old lines
-        → GivesRun file version.new lines result giving.old giving.new (target_bytes (file_of giving.old.target) (O.given out.old) (D.told disk.old)) (target_bytes (file_of giving.old.target) (O.given out.new) (D.told disk.new)) }
+        → GivesRun file version.new lines result giving.old giving.new (target_bytes (file_of giving.old.target)
+        (O.given out.old) (D.told disk.old)) (target_bytes (file_of giving.old.target) (O.given out.new)
+        (D.told disk.new)) }
     ensures read { OnOk result ((live : List ℕ) (before : List Item) → HasRead live version.old before
-        → ReadSome live version.new before giving.old giving.new (target_bytes (file_of giving.old.target) (O.given out.old) (D.told disk.old)) (target_bytes (file_of giving.old.target) (O.given out.new) (D.told disk.new))) }
+        → ReadSome live version.new before giving.old giving.new (target_bytes (file_of giving.old.target)
+        (O.given out.old) (D.told disk.old)) (target_bytes (file_of giving.old.target) (O.given out.new)
+        (D.told disk.new))) }
 {
     let texts = version.texts();
     let count = texts.len();
@@ -270,14 +301,20 @@ fn give_next<O: Sink, D: Disk>(
     disk: &mut D,
 ) -> Result<bool, StepFault>
     requires can { CanGive giving.old (D.told disk.old) }
-    ensures frame { UsesTarget (file_of giving.old.target) O.given O.faults D.told D.faults out.old out.new disk.old disk.new result }
+    ensures frame { UsesTarget (file_of giving.old.target) O.given O.faults D.told D.faults out.old out.new disk.old
+        disk.new result }
     ensures keeps { KeepsForm giving.old giving.new }
     ensures version { KeepsVersion version.old version.new }
     ensures further { IfOk result (λ more. more ≡ true → steps_to_end version.new < steps_to_end version.old) }
-    ensures gives { (file : List ℕ) (lines : List HistoryLine) → bytes_in (seen (D.told disk.old)) (name_of version.old) ≡ Some file → Coming file version.old lines
-        → GivesMore file version.new lines result giving.old giving.new (target_bytes (file_of giving.old.target) (O.given out.old) (D.told disk.old)) (target_bytes (file_of giving.old.target) (O.given out.new) (D.told disk.new)) }
+    ensures gives { (file : List ℕ) (lines : List HistoryLine) → bytes_in (seen (D.told disk.old)) (name_of version.old)
+        ≡ Some file → Coming file version.old lines
+        → GivesMore file version.new lines result giving.old giving.new (target_bytes (file_of giving.old.target)
+        (O.given out.old) (D.told disk.old)) (target_bytes (file_of giving.old.target) (O.given out.new)
+        (D.told disk.new)) }
     ensures read { (live : List ℕ) (before : List Item) → HasRead live version.old before
-        → ReadsMore live version.new before result giving.old giving.new (target_bytes (file_of giving.old.target) (O.given out.old) (D.told disk.old)) (target_bytes (file_of giving.old.target) (O.given out.new) (D.told disk.new)) }
+        → ReadsMore live version.new before result giving.old giving.new (target_bytes (file_of giving.old.target)
+        (O.given out.old) (D.told disk.old)) (target_bytes (file_of giving.old.target) (O.given out.new)
+        (D.told disk.new)) }
 {
     match version.next(disk) {
         Ok(Next::Line(line)) => match giving.give_line(version.inserter(), &line, out, disk) {
@@ -299,13 +336,18 @@ pub fn give_all<O: Sink, D: Disk>(
 ) -> Result<(), StepFault>
     requires can { CanGive giving.old (D.told disk.old) }
     requires apart { IsApart (file_of giving.old.target) (name_of version.old) }
-    ensures frame { UsesTarget (file_of giving.old.target) O.given O.faults D.told D.faults out.old out.new disk.old disk.new result }
+    ensures frame { UsesTarget (file_of giving.old.target) O.given O.faults D.told D.faults out.old out.new disk.old
+        disk.new result }
     ensures keeps { KeepsForm giving.old giving.new }
     ensures there { CanTake (file_of giving.new.target) (D.told disk.new) }
-    ensures gives { (file : List ℕ) (lines : List HistoryLine) → bytes_in (seen (D.told disk.old)) (name_of version.old) ≡ Some file → Coming file version.old lines
-        → GivesAll lines result giving.old giving.new (target_bytes (file_of giving.old.target) (O.given out.old) (D.told disk.old)) (target_bytes (file_of giving.old.target) (O.given out.new) (D.told disk.new)) }
+    ensures gives { (file : List ℕ) (lines : List HistoryLine) → bytes_in (seen (D.told disk.old)) (name_of version.old)
+        ≡ Some file → Coming file version.old lines
+        → GivesAll lines result giving.old giving.new (target_bytes (file_of giving.old.target) (O.given out.old)
+        (D.told disk.old)) (target_bytes (file_of giving.old.target) (O.given out.new) (D.told disk.new)) }
     ensures read { OnOk result ((live : List ℕ) (before : List Item) → HasRead live version.old before
-        → ReadWhole live version.old.set before giving.old giving.new (target_bytes (file_of giving.old.target) (O.given out.old) (D.told disk.old)) (target_bytes (file_of giving.old.target) (O.given out.new) (D.told disk.new))) }
+        → ReadWhole live version.old.set before giving.old giving.new (target_bytes (file_of giving.old.target)
+        (O.given out.old) (D.told disk.old)) (target_bytes (file_of giving.old.target) (O.given out.new)
+        (D.told disk.new))) }
 {
     'lines: loop {
         match give_run(giving, version, out, disk) {

@@ -23,7 +23,8 @@ use std::alloc::Global;
 fn search_run(version: &mut VersionReader<'_>) -> bool
     ensures name { name_of version.new ≡ name_of version.old }
     ensures left { steps_to_end version.new ≤ steps_to_end version.old }
-    ensures told { (file : List ℕ) (lines : List HistoryLine) → Coming file version.old lines → Searched file version.new lines result }
+    ensures told { (file : List ℕ) (lines : List HistoryLine) → Coming file version.old lines
+        → Searched file version.new lines result }
 {
     let texts = version.texts();
     let count = texts.len();
@@ -42,7 +43,8 @@ fn search_next<D: Disk>(
     ensures checks { RefusesWithin file_checks result }
     ensures name { name_of version.new ≡ name_of version.old }
     ensures further { IfOk result (λ more. IfSome more (λ _. steps_to_end version.new < steps_to_end version.old)) }
-    ensures told { (file : List ℕ) (lines : List HistoryLine) → bytes_in (seen (D.told disk.old)) (name_of version.old) ≡ Some file → Coming file version.old lines
+    ensures told { (file : List ℕ) (lines : List HistoryLine) → bytes_in (seen (D.told disk.old)) (name_of version.old)
+        ≡ Some file → Coming file version.old lines
         → SearchesNextLine file version.new lines result }
 {
     match version.next(disk) {
@@ -58,7 +60,8 @@ fn search_all<D: Disk>(version: &mut VersionReader<'_>, disk: &mut D) -> Result<
     ensures same { D.told disk.new ≡ D.told disk.old }
     ensures causes { (out : ℕ) → PrintCauses result out out (D.faults disk.old) (D.faults disk.new) }
     ensures checks { RefusesWithin file_checks result }
-    ensures told { (file : List ℕ) (lines : List HistoryLine) → bytes_in (seen (D.told disk.old)) (name_of version.old) ≡ Some file → Coming file version.old lines
+    ensures told { (file : List ℕ) (lines : List HistoryLine) → bytes_in (seen (D.told disk.old)) (name_of version.old)
+        ≡ Some file → Coming file version.old lines
         → SearchesKeywords lines result }
 {
     let mut found = false;

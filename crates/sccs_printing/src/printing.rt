@@ -1,4 +1,5 @@
-ghost use Rattle.std.specs.Prelude.{◌≡◌, ◌≢◌, ◌≤◌, ◌⊎◌, false, ℕ, List, [], Err, IfOk, IfSome, IsOk, None, OnOk, Option};
+ghost use Rattle.std.specs.Prelude.{◌≡◌, ◌≢◌, ◌≤◌, ◌⊎◌, false, ℕ, List, [], Err, IfOk, IfSome, IsOk, None, OnOk};
+ghost use Rattle.std.specs.Prelude.{Option};
 ghost use Rattle.sccs_base.specs.Stream.{Rose};
 ghost use Rattle.sccs_disk.specs.Told.{seen};
 ghost use Rattle.sccs_history.specs.Applied.{serials_of};
@@ -14,7 +15,8 @@ ghost use Rattle.sccs_keywords.specs.Forms.{line_form};
 ghost use Rattle.sccs_versions.specs.Coming.{IsBody, shown};
 ghost use Rattle.sccs_printing.specs.Counted.{shown_of};
 ghost use Rattle.sccs_printing.specs.Printing.{CanForm, PrintsWhole, file_checks, version_text};
-ghost use Rattle.sccs_printing.specs.Targets.{CanTake, GivesTo, IsFreshTarget, KeepsTargetMark, Prints, Reaches, Spares, UsesTarget, file_of, target_bytes, held_back};
+ghost use Rattle.sccs_printing.specs.Targets.{CanTake, GivesTo, IsFreshTarget, KeepsTargetMark, Prints, Reaches};
+ghost use Rattle.sccs_printing.specs.Targets.{Spares, UsesTarget, file_of, target_bytes, held_back};
 
 use crate::givings::{Giving, give_all};
 use crate::shown::Shown;
@@ -36,18 +38,23 @@ fn finish<O: Sink, D: Disk>(
     disk: &mut D,
 ) -> Result<Shown, StepFault>
     requires there { CanTake (file_of giving.old.target) (D.told disk.old) }
-    ensures reaches { Reaches (file_of giving.old.target) (O.given out.old) (O.given out.new) (D.told disk.old) (D.told disk.new) }
+    ensures reaches { Reaches (file_of giving.old.target) (O.given out.old) (O.given out.new) (D.told disk.old)
+        (D.told disk.new) }
     ensures mark { OnOk result (KeepsTargetMark (file_of giving.old.target) (D.told disk.old) (D.told disk.new)) }
     ensures spares { Spares (file_of giving.old.target) given → Spares (file_of giving.old.target) result }
     ensures later { O.faults out.old ≤ O.faults out.new }
     ensures disk_later { D.faults disk.old ≤ D.faults disk.new }
-    ensures write { result ≡ Err faults.WriteFault → (given ≡ Err faults.WriteFault) ⊎ Rose (O.faults out.old) (O.faults out.new) }
-    ensures broke { result ≡ Err faults.DiskFault → (given ≡ Err faults.DiskFault) ⊎ Rose (D.faults disk.old) (D.faults disk.new) }
+    ensures write { result ≡ Err faults.WriteFault → (given ≡ Err faults.WriteFault) ⊎ Rose (O.faults out.old)
+        (O.faults out.new) }
+    ensures broke { result ≡ Err faults.DiskFault → (given ≡ Err faults.DiskFault) ⊎ Rose (D.faults disk.old)
+        (D.faults disk.new) }
     ensures read { given ≢ Err faults.ReadFault → result ≢ Err faults.ReadFault }
     ensures checks { RefusesWithin file_checks given → RefusesWithin file_checks result }
     ensures prints { (text : List ℕ) (before : Option (List ℕ))
-        → GivesTo (file_of giving.old.target) text given [] (held_back giving.old.target) before (target_bytes (file_of giving.old.target) (O.given out.old) (D.told disk.old))
-        → Prints (file_of giving.old.target) text result before (target_bytes (file_of giving.old.target) (O.given out.new) (D.told disk.new)) }
+        → GivesTo (file_of giving.old.target) text given [] (held_back giving.old.target) before
+        (target_bytes (file_of giving.old.target) (O.given out.old) (D.told disk.old))
+        → Prints (file_of giving.old.target) text result before (target_bytes (file_of giving.old.target)
+        (O.given out.new) (D.told disk.new)) }
     ensures given { OnOk result (IsOk given) }
     ensures shown { IfOk result (λ s. s ≡ giving.old.shown) }
 {
@@ -77,16 +84,21 @@ pub fn give_text<O: Sink, D: Disk>(
 ) -> Result<Shown, StepFault>
     requires text { CanForm (line_form form.now) front.now.header.records }
     requires target { IsFreshTarget target name.now (D.told disk.old) }
-    ensures frame { UsesTarget (file_of target) O.given O.faults D.told D.faults out.old out.new disk.old disk.new result }
+    ensures frame { UsesTarget (file_of target) O.given O.faults D.told D.faults out.old out.new disk.old disk.new
+        result }
     ensures prints { (file : List ℕ) (items : List Item)
         → IsBody (bytes_in (seen (D.told disk.old)) name.now) front.now set.now file items
-        → Prints (file_of target) (version_text (line_form form.now) front.now.header.records (shown set.now (lines_of items))) result
-        (target_bytes (file_of target) (O.given out.old) (D.told disk.old)) (target_bytes (file_of target) (O.given out.new) (D.told disk.new)) }
+        → Prints (file_of target) (version_text (line_form form.now) front.now.header.records
+        (shown set.now (lines_of items))) result
+        (target_bytes (file_of target) (O.given out.old) (D.told disk.old)) (target_bytes (file_of target)
+        (O.given out.new) (D.told disk.new)) }
     ensures found { (file : List ℕ) (items : List Item)
         → IsBody (bytes_in (seen (D.told disk.old)) name.now) front.now set.now file items
         → IfOk result (λ s. s ≡ shown_of (line_form form.now) (shown set.now (lines_of items))) }
-    ensures whole { IfOk result (λ s. has set.now 0 ≡ false → PrintsWhole (line_form form.now) front.now.header.records set.now s
-        (target_bytes (file_of target) (O.given out.old) (D.told disk.old)) (target_bytes (file_of target) (O.given out.new) (D.told disk.new))) }
+    ensures whole { IfOk result (λ s. has set.now 0 ≡ false → PrintsWhole (line_form form.now) front.now.header.records
+        set.now s
+        (target_bytes (file_of target) (O.given out.old) (D.told disk.old)) (target_bytes (file_of target)
+        (O.given out.new) (D.told disk.new))) }
 {
     let Ok(mut version) = VersionReader::new(alloc, name, front, set) else {
         return Err(StepFault::Memory);
@@ -115,11 +127,13 @@ pub fn print_text<O: Sink, D: Disk>(
     ensures checks { RefusesWithin file_checks result }
     ensures prints { (file : List ℕ) (items : List Item)
         → IsBody (bytes_in (seen (D.told disk.old)) name.now) front.now set.now file items
-        → Prints None (version_text (line_form form.now) front.now.header.records (shown set.now (lines_of items))) result (O.given out.old) (O.given out.new) }
+        → Prints None (version_text (line_form form.now) front.now.header.records (shown set.now (lines_of items)))
+        result (O.given out.old) (O.given out.new) }
     ensures found { (file : List ℕ) (items : List Item)
         → IsBody (bytes_in (seen (D.told disk.old)) name.now) front.now set.now file items
         → IfOk result (λ s. s ≡ shown_of (line_form form.now) (shown set.now (lines_of items))) }
-    ensures whole { IfOk result (λ s. has set.now 0 ≡ false → PrintsWhole (line_form form.now) front.now.header.records set.now s (O.given out.old) (O.given out.new)) }
+    ensures whole { IfOk result (λ s. has set.now 0 ≡ false → PrintsWhole (line_form form.now) front.now.header.records
+        set.now s (O.given out.old) (O.given out.new)) }
 {
     let Ok(buffer) = OutputBuffer::new(alloc) else {
         return Err(StepFault::Memory);

@@ -1,7 +1,8 @@
 ghost use Rattle.std.specs.Prelude.{◌≡◌, [], OnOk};
 ghost use Rattle.sccs_disk.specs.Calls.{IsThere};
 ghost use Rattle.sccs_tokens.specs.Written.{ended};
-ghost use Rattle.sccs_printing.specs.Targets.{CanTake, GivesTo, UsesTarget, file_of, target_bytes, held_back, writing_fault};
+ghost use Rattle.sccs_printing.specs.Targets.{CanTake, GivesTo, UsesTarget, file_of, target_bytes, held_back};
+ghost use Rattle.sccs_printing.specs.Targets.{writing_fault};
 
 use sccs_base::{OutputBuffer, Sink};
 use sccs_disk::{Disk, DiskRefusal};
@@ -34,9 +35,11 @@ pub fn put<O: Sink, D: Disk>(
     disk: &mut D,
 ) -> Result<(), StepFault>
     requires { CanTake (file_of target.old) (D.told disk.old) }
-    ensures frame { UsesTarget (file_of target.old) O.given O.faults D.told D.faults out.old out.new disk.old disk.new result }
+    ensures frame { UsesTarget (file_of target.old) O.given O.faults D.told D.faults out.old out.new disk.old disk.new
+        result }
     ensures gives { GivesTo (file_of target.old) text.now result (held_back target.old) (held_back target.new)
-        (target_bytes (file_of target.old) (O.given out.old) (D.told disk.old)) (target_bytes (file_of target.old) (O.given out.new) (D.told disk.new)) }
+        (target_bytes (file_of target.old) (O.given out.old) (D.told disk.old)) (target_bytes (file_of target.old)
+        (O.given out.new) (D.told disk.new)) }
     ensures file { file_of target.new ≡ file_of target.old }
 {
     match target {
@@ -59,9 +62,11 @@ pub fn put_line<O: Sink, D: Disk>(
     disk: &mut D,
 ) -> Result<(), StepFault>
     requires { CanTake (file_of target.old) (D.told disk.old) }
-    ensures frame { UsesTarget (file_of target.old) O.given O.faults D.told D.faults out.old out.new disk.old disk.new result }
+    ensures frame { UsesTarget (file_of target.old) O.given O.faults D.told D.faults out.old out.new disk.old disk.new
+        result }
     ensures gives { GivesTo (file_of target.old) (ended line.now) result (held_back target.old) (held_back target.new)
-        (target_bytes (file_of target.old) (O.given out.old) (D.told disk.old)) (target_bytes (file_of target.old) (O.given out.new) (D.told disk.new)) }
+        (target_bytes (file_of target.old) (O.given out.old) (D.told disk.old)) (target_bytes (file_of target.old)
+        (O.given out.new) (D.told disk.new)) }
     ensures file { file_of target.new ≡ file_of target.old }
 {
     put(target, line, out, disk)?;
@@ -75,9 +80,11 @@ pub fn flush<O: Sink, D: Disk>(
     disk: &mut D,
 ) -> Result<(), StepFault>
     requires { CanTake (file_of target.old) (D.told disk.old) }
-    ensures frame { UsesTarget (file_of target.old) O.given O.faults D.told D.faults out.old out.new disk.old disk.new result }
+    ensures frame { UsesTarget (file_of target.old) O.given O.faults D.told D.faults out.old out.new disk.old disk.new
+        result }
     ensures gives { GivesTo (file_of target.old) [] result (held_back target.old) (held_back target.new)
-        (target_bytes (file_of target.old) (O.given out.old) (D.told disk.old)) (target_bytes (file_of target.old) (O.given out.new) (D.told disk.new)) }
+        (target_bytes (file_of target.old) (O.given out.old) (D.told disk.old)) (target_bytes (file_of target.old)
+        (O.given out.new) (D.told disk.new)) }
     ensures empty { OnOk result (held_back target.new ≡ []) }
     ensures file { file_of target.new ≡ file_of target.old }
 {

@@ -47,15 +47,18 @@ fn append_text<D: Disk>(
     requires text { CanForm (line_form form.now) front.now.header.records }
     requires there { IsThere to.now (D.told disk.old) }
     requires apart { bytes_eq to.now name.now ≡ false }
-    ensures frame { WritesText to.now (D.told disk.old) (D.told disk.new) (D.faults disk.old) (D.faults disk.new) result }
+    ensures frame { WritesText to.now (D.told disk.old) (D.told disk.new) (D.faults disk.old) (D.faults disk.new)
+        result }
     ensures appends { (file : List ℕ) (items : List Item)
         → IsBody (bytes_in (seen (D.told disk.old)) name.now) front.now set.now file items
-        → Prints (Some to.now) (version_text (line_form form.now) front.now.header.records (shown set.now (lines_of items))) result
+        → Prints (Some to.now) (version_text (line_form form.now) front.now.header.records
+        (shown set.now (lines_of items))) result
         (bytes_in (seen (D.told disk.old)) to.now) (bytes_in (seen (D.told disk.new)) to.now) }
     ensures found { (file : List ℕ) (items : List Item)
         → IsBody (bytes_in (seen (D.told disk.old)) name.now) front.now set.now file items
         → IfOk result (λ s. s ≡ shown_of (line_form form.now) (shown set.now (lines_of items))) }
-    ensures whole { IfOk result (λ s. has set.now 0 ≡ false → PrintsWhole (line_form form.now) front.now.header.records set.now s
+    ensures whole { IfOk result (λ s. has set.now 0 ≡ false → PrintsWhole (line_form form.now) front.now.header.records
+        set.now s
         (bytes_in (seen (D.told disk.old)) to.now) (bytes_in (seen (D.told disk.new)) to.now)) }
 {
     let writer = PieceWriter::new(to, Sum::new());
@@ -84,15 +87,18 @@ fn append_y<D: Disk>(
     requires sfile { IsSFileName name.now }
     requires text { CanForm (line_form form.now) front.now.header.records }
     requires there { IsThere (y_file name.now) (D.told disk.old) }
-    ensures frame { WritesText (y_file name.now) (D.told disk.old) (D.told disk.new) (D.faults disk.old) (D.faults disk.new) result }
+    ensures frame { WritesText (y_file name.now) (D.told disk.old) (D.told disk.new) (D.faults disk.old)
+        (D.faults disk.new) result }
     ensures appends { (file : List ℕ) (items : List Item)
         → IsBody (bytes_in (seen (D.told disk.old)) name.now) front.now set.now file items
-        → Prints (Some (y_file name.now)) (version_text (line_form form.now) front.now.header.records (shown set.now (lines_of items))) result
+        → Prints (Some (y_file name.now)) (version_text (line_form form.now) front.now.header.records
+        (shown set.now (lines_of items))) result
         (bytes_in (seen (D.told disk.old)) (y_file name.now)) (bytes_in (seen (D.told disk.new)) (y_file name.now)) }
     ensures found { (file : List ℕ) (items : List Item)
         → IsBody (bytes_in (seen (D.told disk.old)) name.now) front.now set.now file items
         → IfOk result (λ s. s ≡ shown_of (line_form form.now) (shown set.now (lines_of items))) }
-    ensures whole { IfOk result (λ s. has set.now 0 ≡ false → PrintsWhole (line_form form.now) front.now.header.records set.now s
+    ensures whole { IfOk result (λ s. has set.now 0 ≡ false → PrintsWhole (line_form form.now) front.now.header.records
+        set.now s
         (bytes_in (seen (D.told disk.old)) (y_file name.now)) (bytes_in (seen (D.told disk.new)) (y_file name.now))) }
 {
     append_text(alloc, name, front, set, form, &name.sibling(b'y'), disk)
@@ -116,14 +122,16 @@ pub fn make_y<D: Disk>(
     requires table { Falls 65536 (serials_of front.now.header.records) }
     ensures view { (file : List ℕ) (items : List Item)
         → IsBody (bytes_in (seen (D.told disk.old)) name.now) front.now set.now file items
-        → Makes (y_file name.now) mode (version_text (line_form form.now) front.now.header.records (shown set.now (lines_of items))) (line_form form.now) (shown set.now (lines_of items))
+        → Makes (y_file name.now) mode (version_text (line_form form.now) front.now.header.records
+        (shown set.now (lines_of items))) (line_form form.now) (shown set.now (lines_of items))
         (seen (D.told disk.old)) (seen (D.told disk.new)) result }
     ensures moves { Moves (bytes_eq (y_file name.now)) (λ v. v) (seen (D.told disk.old)) (seen (D.told disk.new)) }
     ensures there { OnOk result (IsThere (y_file name.now) (D.told disk.new)) }
     ensures touches { TouchesOnly (bytes_eq (y_file name.now)) (D.told disk.old) (D.told disk.new) }
     ensures firm { OnOk result (Leaves (IsFirm (y_file name.now)) (D.told disk.old) (D.told disk.new)) }
     ensures checks { RefusesWithin file_checks result }
-    ensures whole { IfOk result (λ s. has set.now 0 ≡ false → MakesWhole (y_file name.now) mode (line_form form.now) front.now.header.records set.now s (seen (D.told disk.new))) }
+    ensures whole { IfOk result (λ s. has set.now 0 ≡ false → MakesWhole (y_file name.now) mode (line_form form.now)
+        front.now.header.records set.now s (seen (D.told disk.new))) }
     ensures later { D.faults disk.old ≤ D.faults disk.new }
     ensures cause { result ≡ Err faults.DiskFault → Rose (D.faults disk.old) (D.faults disk.new) }
     ensures read { result ≢ Err faults.ReadFault }

@@ -1,5 +1,6 @@
 -- Lists that are given item by item.
-use Rattle.std.proofs.Common.{◌≡◌, ℕ, ◌+◌, ◌<◌, ◌≤◌, List, [], ◌∷◌, ◌++◌, append_assoc, append-nil, length, take, flat_map, get_or, Option, Result, Err, OnErr, sym, ap, subst, ◌∙◌, arith}
+use Rattle.std.proofs.Common.{◌≡◌, ℕ, ◌+◌, ◌<◌, ◌≤◌, List, [], ◌∷◌, ◌++◌, append_assoc, append-nil, length, take}
+use Rattle.std.proofs.Common.{flat_map, get_or, Option, Result, Err, OnErr, sym, ap, subst, ◌∙◌, arith}
 use Rattle.std.specs.Result.{OnErr}
 use Rattle.sccs_base.specs.Causes.{GivesText}
 use Rattle.sccs_base.specs.Stream.{GivesOk, GivesSome, Rose}
@@ -12,8 +13,11 @@ pub record HasGiven (text : List ℕ) (a b : Option (List ℕ)) (n m : ℕ) : Ty
   pub later : n ≤ m
 
 -- one item fails
-pub item_fails : {X T E : Type 0} (f : X → List ℕ) (xs items : List X) → items ≡ xs → (i : ℕ) (x d : X) → i < length items → x ≡ get_or items i d → (a b c : Option (List ℕ)) (n m k : ℕ) (r : Result T E) (fault other : E) → r ≡ Err fault
-    → HasGiven (flat_map f (take i xs)) a b n m → GivesText (f x) b c m k r → GivesText {T = Unit {0}} (flat_map f xs) a c n k (Err other)
+pub item_fails : {X T E : Type 0} (f : X → List ℕ) (xs items : List X) → items ≡ xs → (i : ℕ) (x d : X)
+    → i < length items → x ≡ get_or items i d → (a b c : Option (List ℕ)) (n m k : ℕ) (r : Result T E) (fault other : E)
+    → r ≡ Err fault
+    → HasGiven (flat_map f (take i xs)) a b n m → GivesText (f x) b c m k r → GivesText {T = Unit {0}}
+    (flat_map f xs) a c n k (Err other)
 item_fails {X} {T} {E} f xs items same i x d below is a b c n m k r fault other failed so_far text =
     let there : i < length xs = subst (λ (l : List X). i < length l) same below in
     let item : get_or xs i d ≡ x = ap (λ (l : List X). get_or l i d) (sym same) ∙ sym is in
@@ -31,13 +35,18 @@ pub slashed_rest : (a b : List ℕ) → (a ++ 47 ∷ []) ++ b ≡ a ++ (47 ∷ b
 slashed_rest a b = append_assoc a (47 ∷ []) b
 
 pub slashed_whole : (a b c : List ℕ) → ((a ++ 47 ∷ []) ++ (b ++ 47 ∷ [])) ++ c ≡ a ++ (47 ∷ (b ++ (47 ∷ c)))
-slashed_whole a b c = append_assoc (a ++ 47 ∷ []) (b ++ 47 ∷ []) c ∙ (slashed_rest a ((b ++ 47 ∷ []) ++ c) ∙ ap (λ t. a ++ (47 ∷ t)) (slashed_rest b c))
+slashed_whole a b c = append_assoc (a ++ 47 ∷ []) (b ++ 47 ∷ []) c ∙ (slashed_rest a ((b ++ 47 ∷ []) ++ c)
+    ∙ ap (λ t. a ++ (47 ∷ t)) (slashed_rest b c))
 
-pub three_slashed : (a a2 b b2 c c2 : List ℕ) → a2 ≡ a → b2 ≡ b → c2 ≡ c → a2 ++ (47 ∷ (b2 ++ (47 ∷ (c2 ++ [])))) ≡ a ++ (47 ∷ (b ++ (47 ∷ c)))
+pub three_slashed : (a a2 b b2 c c2 : List ℕ) → a2 ≡ a → b2 ≡ b → c2 ≡ c → a2 ++ (47 ∷ (b2 ++ (47 ∷ (c2 ++ [])))) ≡ a
+    ++ (47 ∷ (b ++ (47 ∷ c)))
 three_slashed a a2 b b2 c c2 first second third =
     ap (λ t. t ++ (47 ∷ (b2 ++ (47 ∷ (c2 ++ []))))) first
-    ∙ (ap (λ t. a ++ (47 ∷ (t ++ (47 ∷ (c2 ++ []))))) second ∙ ap (λ t. a ++ (47 ∷ (b ++ (47 ∷ t)))) (append-nil c2 ∙ third))
+    ∙ (ap (λ t. a ++ (47 ∷ (t ++ (47 ∷ (c2 ++ []))))) second ∙ ap (λ t. a ++ (47 ∷ (b ++ (47 ∷ t)))) (append-nil c2
+    ∙ third))
 
-pub three_words : (a a2 b b2 c c2 rest : List ℕ) → a2 ≡ a → b2 ≡ b → c2 ≡ c → a2 ++ (32 ∷ (b2 ++ (32 ∷ (c2 ++ rest)))) ≡ a ++ (32 ∷ (b ++ (32 ∷ (c ++ rest))))
+pub three_words : (a a2 b b2 c c2 rest : List ℕ) → a2 ≡ a → b2 ≡ b → c2 ≡ c → a2 ++ (32 ∷ (b2 ++ (32 ∷ (c2 ++ rest))))
+    ≡ a ++ (32 ∷ (b ++ (32 ∷ (c ++ rest))))
 three_words a a2 b b2 c c2 rest first second third =
-    ap (λ t. t ++ (32 ∷ (b2 ++ (32 ∷ (c2 ++ rest))))) first ∙ (ap (λ t. a ++ (32 ∷ (t ++ (32 ∷ (c2 ++ rest))))) second ∙ ap (λ t. a ++ (32 ∷ (b ++ (32 ∷ (t ++ rest))))) third)
+    ap (λ t. t ++ (32 ∷ (b2 ++ (32 ∷ (c2 ++ rest))))) first ∙ (ap (λ t. a ++ (32 ∷ (t ++ (32 ∷ (c2 ++ rest))))) second
+    ∙ ap (λ t. a ++ (32 ∷ (b ++ (32 ∷ (t ++ rest))))) third)

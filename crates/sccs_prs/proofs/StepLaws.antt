@@ -1,5 +1,6 @@
 -- What prs makes of its step.
-use Rattle.std.proofs.Common.{◌≡◌, ℕ, true, List, [], Option, None, Some, Result, Ok, Err, inl, refl, sym, ap, subst, ◌∙◌, arith}
+use Rattle.std.proofs.Common.{◌≡◌, ℕ, true, List, [], Option, None, Some, Result, Ok, Err, inl, refl, sym, ap, subst}
+use Rattle.std.proofs.Common.{◌∙◌, arith}
 use Rattle.std.specs.Prelude.{IfSome}
 use Rattle.sccs_base.specs.Name.{IsSFileName, is_sfile_name, sfile_name_decides}
 use Rattle.sccs_base.proofs.Gifts.{gives_none, some_none}
@@ -40,36 +41,60 @@ module _ (words : PrsWords) (place n : List ℕ) where
   after bytes file = from_file words place n file
 
   -- the outcome is that of reading, and of what follows it
-  as_prs : (o : Option View) (r : Result (Unit {0}) StepFault) (a b : Option (List ℕ)) → IfSome o (λ (v : View). ShowsOutcome n (outcome_by after n (v n)) r a b) → IfSome o (λ (v : View). ShowsOutcome n (prs_outcome words place n (look v n)) r a b)
+  as_prs : (o : Option View) (r : Result (Unit {0}) StepFault) (a b : Option (List ℕ))
+      → IfSome o (λ (v : View). ShowsOutcome n (outcome_by after n (v n)) r a b)
+      → IfSome o (λ (v : View). ShowsOutcome n (prs_outcome words place n (look v n)) r a b)
   as_prs None r a b shows = tt
-  as_prs (Some v) r a b shows = subst (λ (x : Outcome). ShowsOutcome n x r a b) (sym (outcome_is words place n (look v n))) shows
+  as_prs (Some v) r a b shows = subst (λ (x : Outcome). ShowsOutcome n x r a b)
+      (sym (outcome_is words place n (look v n))) shows
 
-  pub file_ends : (o : Option View) (fault : FileFault) (ended : StepFault) (a : Option (List ℕ)) → ended ≡ file_fault fault → IfSome o (λ view. AnswersFile (file_in view n) (Err fault)) → IfSome o (λ (v : View). ShowsOutcome n (prs_outcome words place n (look v n)) (Err ended) a a)
+  pub file_ends : (o : Option View) (fault : FileFault) (ended : StepFault) (a : Option (List ℕ))
+      → ended ≡ file_fault fault → IfSome o (λ view. AnswersFile (file_in view n) (Err fault))
+      → IfSome o (λ (v : View). ShowsOutcome n (prs_outcome words place n (look v n)) (Err ended) a a)
   file_ends o fault ended a is answers = as_prs o (Err ended) a a (unread_ends after n o fault ended a is answers)
 
-  chosen_is : (front : Front) (parsed : Parsed) (r : Result Chosen Refusal) → front.header ≡ parsed.header → chosen_of words front.header.records ≡ r → from_file words place n parsed ≡ (r >>= λ chosen. Ok (prints (report_text words chosen (shown_file parsed n place))))
-  chosen_is front parsed r header chosen = ap (λ (c : Result Chosen Refusal). c >>= λ x. Ok (prints (report_text words x (shown_file parsed n place)))) (ap (λ (h : Header). chosen_of words h.records) (sym header) ∙ chosen)
+  chosen_is : (front : Front) (parsed : Parsed) (r : Result Chosen Refusal) → front.header ≡ parsed.header
+      → chosen_of words front.header.records ≡ r → from_file words place n parsed
+      ≡ (r >>= λ chosen. Ok (prints (report_text words chosen (shown_file parsed n place))))
+  chosen_is front parsed r header chosen = ap (λ (c : Result Chosen Refusal). c
+      >>= λ x. Ok (prints (report_text words x (shown_file parsed n place))))
+      (ap (λ (h : Header). chosen_of words h.records) (sym header) ∙ chosen)
 
-  pub unchosen_ends : (o : Option View) (front : Front) (a : Option (List ℕ)) → IsPlaced front → IfSome o (λ view. AnswersFile (file_in view n) (Ok front)) → chosen_of words front.header.records ≡ Err refusals.NoSid → IfSome o (λ (v : View). ShowsOutcome n (prs_outcome words place n (look v n)) (Err (Refused refusals.NoSid)) a a)
+  pub unchosen_ends : (o : Option View) (front : Front) (a : Option (List ℕ)) → IsPlaced front
+      → IfSome o (λ view. AnswersFile (file_in view n) (Ok front)) → chosen_of words front.header.records
+      ≡ Err refusals.NoSid → IfSome o (λ (v : View). ShowsOutcome n (prs_outcome words place n (look v n))
+      (Err (Refused refusals.NoSid)) a a)
   unchosen_ends o front a placed answers is =
-      as_prs o (Err (Refused refusals.NoSid)) a a (read_ends after n o o front (Err (Refused refusals.NoSid)) a a refl placed answers (λ parsed bytes header listed. (chosen_is front parsed (Err refusals.NoSid) header is, refl)))
+      as_prs o (Err (Refused refusals.NoSid)) a a (read_ends after n o o front (Err (Refused refusals.NoSid)) a a refl
+      placed answers (λ parsed bytes header listed. (chosen_is front parsed (Err refusals.NoSid) header is, refl)))
 
-  pub report_ends : (o o1 : Option View) (front : Front) (chosen : Chosen) (r : Result (Unit {0}) StepFault) (a b : Option (List ℕ)) → o1 ≡ o → IsPlaced front → IfSome o (λ view. AnswersFile (file_in view n) (Ok front)) → chosen_of words front.header.records ≡ Ok chosen
-      → ((bytes : List ℕ) (items : List Item) → IsListedFile (bytes_in o1 n) front bytes items → PrintsAll (report_text words chosen (shown_by front items n place)) r a b) → IfSome o (λ (v : View). ShowsOutcome n (prs_outcome words place n (look v n)) r a b)
+  pub report_ends : (o o1 : Option View) (front : Front) (chosen : Chosen) (r : Result (Unit {0}) StepFault)
+      (a b : Option (List ℕ)) → o1 ≡ o → IsPlaced front → IfSome o (λ view. AnswersFile (file_in view n) (Ok front))
+      → chosen_of words front.header.records ≡ Ok chosen
+      → ((bytes : List ℕ) (items : List Item) → IsListedFile (bytes_in o1 n) front bytes items
+      → PrintsAll (report_text words chosen (shown_by front items n place)) r a b)
+      → IfSome o (λ (v : View). ShowsOutcome n (prs_outcome words place n (look v n)) r a b)
   report_ends o o1 front chosen r a b same placed answers is gives =
       as_prs o r a b
       (read_ends after n o o1 front r a b same placed answers (λ parsed bytes header listed.
-      given_shows n (from_file words place n parsed) (report_text words chosen (shown_file parsed n place)) r a b (chosen_is front parsed (Ok chosen) header is)
-      (subst (λ (h : Header). PrintsAll (report_text words chosen (record { header = h; items = parsed.items; name = n; place = place })) r a b) header (gives bytes parsed.items listed))))
+      given_shows n (from_file words place n parsed) (report_text words chosen (shown_file parsed n place)) r a b
+      (chosen_is front parsed (Ok chosen) header is)
+      (subst (λ (h : Header). PrintsAll (report_text words chosen
+      (record { header = h; items = parsed.items; name = n; place = place })) r a b) header
+      (gives bytes parsed.items listed))))
 
   -- ---- the step
 
-  pub shown_steps : (r : Result (Unit {0}) StepFault) (ta tb : Told) (left out out2 err : Option (List ℕ)) → tb ≡ ta → IfSome (seen ta) (λ (v : View). ShowsOutcome n (prs_outcome words place n (look v n)) r out out2) → Stepped (prs_action words place) r n left (scene ta out err) (scene tb out2 err)
-  shown_steps r ta tb left out out2 err same shows = outcome_steps (prs_outcome words place n) n r ta tb left out out2 err same shows
+  pub shown_steps : (r : Result (Unit {0}) StepFault) (ta tb : Told) (left out out2 err : Option (List ℕ)) → tb ≡ ta
+      → IfSome (seen ta) (λ (v : View). ShowsOutcome n (prs_outcome words place n (look v n)) r out out2)
+      → Stepped (prs_action words place) r n left (scene ta out err) (scene tb out2 err)
+  shown_steps r ta tb left out out2 err same shows = outcome_steps (prs_outcome words place n) n r ta tb left out out2
+      err same shows
 
 -- ---- over any disk
 
-pub shown_speaks : (n : List ℕ) (r : Result (Unit {0}) StepFault) (err : Option (List ℕ)) → RefusesWithin prs_checks r → SpeaksBy (quiet_checks prs_checks) r n err err
+pub shown_speaks : (n : List ℕ) (r : Result (Unit {0}) StepFault) (err : Option (List ℕ)) → RefusesWithin prs_checks r
+    → SpeaksBy (quiet_checks prs_checks) r n err err
 shown_speaks n (Ok done) err within = (Ok (prints []), refl, (prints [], refl, refl, gives_none err))
 shown_speaks n (Err (Refused refusal)) err within = (Err refusal, within refusal refl, (refl, refl))
 shown_speaks n (Err Memory) err within = (Ok (prints []), refl, some_none err [])
@@ -77,7 +102,8 @@ shown_speaks n (Err ReadFault) err within = (Ok (prints []), refl, some_none err
 shown_speaks n (Err WriteFault) err within = (Ok (prints []), refl, some_none err [])
 shown_speaks n (Err DiskFault) err within = (Ok (prints []), refl, some_none err [])
 
-pub as_step : {X : Type 0} (r : Result X StepFault) (i o o2 err d d2 : ℕ) → PrintCauses r o o2 d d2 → StepCauses r (counts i o err d) (counts i o2 err d2)
+pub as_step : {X : Type 0} (r : Result X StepFault) (i o o2 err d d2 : ℕ) → PrintCauses r o o2 d d2
+    → StepCauses r (counts i o err d) (counts i o2 err d2)
 as_step r i o o2 err d d2 causes = record {
   input_later = omega arith;
   out_later = causes.out_later;

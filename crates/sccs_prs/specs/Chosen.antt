@@ -1,5 +1,6 @@
 -- Which deltas prs shows (POSIX prs, -a, -c, -e, -l and -r).
-use Rattle.std.specs.Prelude.{ℕ, ◌==◌, nat_le, int_le, Bool, true, not, ◌&&◌, ◌||◌, List, Option, None, Some, is_some, option_map, find, Result, Ok, if◌then◌else◌}
+use Rattle.std.specs.Prelude.{ℕ, ◌==◌, nat_le, int_le, Bool, true, not, ◌&&◌, ◌||◌, List, Option, None, Some, is_some}
+use Rattle.std.specs.Prelude.{option_map, find, Result, Ok, if◌then◌else◌}
 use Rattle.sccs_sid.specs.Reading.{◌>>=◌}
 use Rattle.sccs_sid.specs.declared.moments.Moment.{Moment}
 use Rattle.sccs_sid.specs.declared.sids.Sid.{Sid}

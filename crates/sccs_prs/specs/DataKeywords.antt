@@ -1,7 +1,12 @@
 -- Data specifications (POSIX prs, -d, "Data Specifications"): the keywords, and the parts of a specification.
-use Rattle.std.specs.Prelude.{ℕ, zero, suc, ◌==◌, ◌&&◌, List, [], ◌∷◌, Option, None, Some, option_map, find, codes, if◌then◌else◌}
+use Rattle.std.specs.Prelude.{ℕ, zero, suc, ◌==◌, ◌&&◌, List, [], ◌∷◌, Option, None, Some, option_map, find, codes}
+use Rattle.std.specs.Prelude.{if◌then◌else◌}
 use Rattle.sccs_history.specs.FlagText.{flag_b, flag_c, flag_d, flag_f, flag_i, flag_j, flag_l, flag_n, flag_v}
-use Rattle.sccs_prs.specs.declared.keywords.DataItem.TheVariants.{Identification, Delta, Kind, Counts, Inserted, Deleted, Unchanged, Year, Month, Day, Hour, Minute, Second, Login, Serial, Predecessor, Lists, Included, Excluded, Ignored, Mrs, Comments, Users, Description, Flags, FlagText, HasFlag}
+use Rattle.sccs_prs.specs.declared.keywords.DataItem.TheVariants.{Identification, Delta, Kind, Counts, Inserted}
+use Rattle.sccs_prs.specs.declared.keywords.DataItem.TheVariants.{Deleted, Unchanged, Year, Month, Day, Hour, Minute}
+use Rattle.sccs_prs.specs.declared.keywords.DataItem.TheVariants.{Second, Login, Serial, Predecessor, Lists, Included}
+use Rattle.sccs_prs.specs.declared.keywords.DataItem.TheVariants.{Excluded, Ignored, Mrs, Comments, Users, Description}
+use Rattle.sccs_prs.specs.declared.keywords.DataItem.TheVariants.{Flags, FlagText, HasFlag}
 use Rattle.sccs_prs.specs.declared.keywords.DataKeyword.{DataKeyword}
 use Rattle.sccs_prs.specs.declared.keywords.Part.{Part}
 use Rattle.sccs_prs.specs.declared.keywords.Part.TheVariants.{Plain, Item, Body, Text}
@@ -73,7 +78,8 @@ keywords =
 
 -- what the keyword of a name stands for
 abbrev pub data_keyword_of : ℕ → ℕ → Option Part
-data_keyword_of first second = option_map (λ (k : DataKeyword). k.2) (find (λ (k : DataKeyword). k.0 == first && k.1 == second) keywords)
+data_keyword_of first second = option_map (λ (k : DataKeyword). k.2)
+    (find (λ (k : DataKeyword). k.0 == first && k.1 == second) keywords)
 
 -- ---- the parts of a specification
 
@@ -106,7 +112,8 @@ behind_backslash (b ∷ bytes) =
 
 -- the part that begins with a byte
 abbrev pub found_part : ℕ → List ℕ → FoundPart
-found_part byte bytes = if byte == 58 then behind_colon bytes else if byte == 92 then behind_backslash bytes else plain_byte byte
+found_part byte bytes = if byte == 58 then behind_colon bytes else if byte == 92 then behind_backslash bytes
+    else plain_byte byte
 
 -- the parts of bytes, where so many at their front belong to a part already
 abbrev pub data_parts_at : ℕ → List ℕ → List Part

@@ -9,7 +9,8 @@ use Rattle.sccs_versions.specs.Coming.{IsBody}
 use Rattle.sccs_prs.specs.PrsText.{ShownFile}
 
 -- All of a text was given behind what was held back; or a prefix of both. No check fails.
-abbrev pub GivesHeld : {T : Type 0} → List ℕ → Result T StepFault → List ℕ → List ℕ → Option (List ℕ) → Option (List ℕ) → Type 0
+abbrev pub GivesHeld : {T : Type 0} → List ℕ → Result T StepFault → List ℕ → List ℕ → Option (List ℕ) → Option (List ℕ)
+    → Type 0
 GivesHeld text (Ok x) held held2 a b = Buffers held text held2 a b
 GivesHeld text (Err Memory) held held2 a b = GivesSome a b (held ++ text)
 GivesHeld text (Err DiskFault) held held2 a b = GivesSome a b (held ++ text)

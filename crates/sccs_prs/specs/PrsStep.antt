@@ -33,7 +33,8 @@ prs_outcome words place n f = do
   chosen ← chosen_of words file.header.records
   Ok (prints (report_text words chosen (shown_file file n place)))
 
--- What a call that prints an outcome's text answers: all of it was given, a check fails and nothing was given, or a prefix of it.
+-- What a call that prints an outcome's text answers: all of it was given, a check fails and nothing was given, or a
+-- prefix of it.
 abbrev pub ShowsOutcome : List ℕ → Outcome → Result (Unit {0}) StepFault → Option (List ℕ) → Option (List ℕ) → Type 0
 ShowsOutcome n o (Ok done) a b = (d : StepEffect) × (o ≡ Ok d) × (d ≡ prints d.text) × GivesOk a b d.text
 ShowsOutcome n o (Err (Refused refusal)) a b = (o ≡ Err refusal) × (b ≡ a)

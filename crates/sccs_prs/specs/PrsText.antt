@@ -1,5 +1,6 @@
 -- The text of prs (POSIX prs, STDOUT).
-use Rattle.std.specs.Prelude.{ℕ, Bool, List, [], ◌∷◌, ◌++◌, map, flat_map, codes, Option, None, Some, is_some, if◌then◌else◌}
+use Rattle.std.specs.Prelude.{ℕ, Bool, List, [], ◌∷◌, ◌++◌, map, flat_map, codes, Option, None, Some, is_some}
+use Rattle.std.specs.Prelude.{if◌then◌else◌}
 use Rattle.sccs_history.specs.Applied.{version}
 use Rattle.sccs_history.specs.Body.{lines_of}
 use Rattle.sccs_history.specs.declared.headers.Header.{Header}
@@ -62,4 +63,5 @@ name_text words n = if is_some words.spec then [] else n ++ (58 ∷ 10 ∷ 10 �
 
 -- all that prs prints of an s-file
 abbrev pub report_text : PrsWords → Chosen → ShownFile → List ℕ
-report_text words chosen s = name_text words s.name ++ deltas_text words.all chosen (data_parts (data_spec words.spec)) s s.header.records
+report_text words chosen s = name_text words s.name ++ deltas_text words.all chosen (data_parts (data_spec words.spec))
+    s s.header.records

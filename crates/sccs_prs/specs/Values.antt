@@ -33,7 +33,8 @@ identified facts letter = expanded facts 0 (37 ∷ letter ∷ 37 ∷ [])
 -- kind, SID, date, time, login, serial and predecessor
 abbrev pub delta_text : Record → List ℕ
 delta_text r =
-    kind_of r.removed ++ (32 ∷ sid_text r.sid ++ (32 ∷ moment_text r.moment ++ (32 ∷ r.login ++ (32 ∷ decimal r.serial ++ (32 ∷ decimal r.predecessor)))))
+    kind_of r.removed ++ (32 ∷ sid_text r.sid ++ (32 ∷ moment_text r.moment
+    ++ (32 ∷ r.login ++ (32 ∷ decimal r.serial ++ (32 ∷ decimal r.predecessor)))))
 
 -- lines inserted, deleted and unchanged
 abbrev pub counts_text : Record → List ℕ

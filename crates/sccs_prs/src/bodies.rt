@@ -23,7 +23,8 @@ use std::alloc::Global;
 
 // gives a control line: SOH and a letter, a blank, and a serial
 fn give_control<S: Sink>(letter: u8, serial: u16, out: &mut S) -> Result<(), Failed>
-    ensures { GivesText (ended (1 ∷ letter ∷ 32 ∷ decimal serial)) (S.given out.old) (S.given out.new) (S.faults out.old) (S.faults out.new) result }
+    ensures { GivesText (ended (1 ∷ letter ∷ 32 ∷ decimal serial)) (S.given out.old) (S.given out.new)
+        (S.faults out.old) (S.faults out.new) result }
 {
     let mut buffer = Buffer::new();
     let digits = buffer.format(serial).as_bytes();
@@ -32,7 +33,8 @@ fn give_control<S: Sink>(letter: u8, serial: u16, out: &mut S) -> Result<(), Fai
 
 // gives the line of an item as it is written
 fn give_line<S: Sink>(item: &Item, out: &mut S) -> Result<(), Failed>
-    ensures { GivesText (ended (item_line item.now)) (S.given out.old) (S.given out.new) (S.faults out.old) (S.faults out.new) result }
+    ensures { GivesText (ended (item_line item.now)) (S.given out.old) (S.given out.new) (S.faults out.old)
+        (S.faults out.new) result }
 {
     match item {
         Item::Text(text) => give_parts(out, &[text.bytes(), b"\n"]),
@@ -44,7 +46,8 @@ fn give_line<S: Sink>(item: &Item, out: &mut S) -> Result<(), Failed>
 
 // prints the line of an item
 fn put_line<O: Sink>(item: &Item, listing: &mut Listing, out: &mut O) -> Result<(), StepFault>
-    ensures gives { GivesHeld (ended (item_line item.now)) result listing.old.buffer listing.new.buffer (O.given out.old) (O.given out.new) }
+    ensures gives { GivesHeld (ended (item_line item.now)) result listing.old.buffer listing.new.buffer
+        (O.given out.old) (O.given out.new) }
     ensures causes { (disk : ℕ) → PrintCauses result (O.faults out.old) (O.faults out.new) disk disk }
     ensures checks { RefusesWithin file_checks result }
 {
@@ -65,7 +68,8 @@ fn put_items<O: Sink, D: Disk>(
     ensures same { D.told disk.new ≡ D.told disk.old }
     ensures causes { PrintCauses result (O.faults out.old) (O.faults out.new) (D.faults disk.old) (D.faults disk.new) }
     ensures checks { RefusesWithin file_checks result }
-    ensures gives { (file : List ℕ) (rest : List Item) → IsToCome (bytes_in (seen (D.told disk.old)) (name_read items.old)) file rest items.old
+    ensures gives { (file : List ℕ) (rest : List Item)
+        → IsToCome (bytes_in (seen (D.told disk.old)) (name_read items.old)) file rest items.old
         → GivesHeld (body_text rest) result listing.old.buffer listing.new.buffer (O.given out.old) (O.given out.new) }
 {
     'items: loop {
@@ -94,7 +98,8 @@ pub fn put_body<O: Sink, D: Disk>(
     ensures same { D.told disk.new ≡ D.told disk.old }
     ensures causes { PrintCauses result (O.faults out.old) (O.faults out.new) (D.faults disk.old) (D.faults disk.new) }
     ensures checks { RefusesWithin file_checks result }
-    ensures gives { (file : List ℕ) (items : List Item) → IsListedFile (bytes_in (seen (D.told disk.old)) name.now) front.now file items
+    ensures gives { (file : List ℕ) (items : List Item) → IsListedFile (bytes_in (seen (D.told disk.old)) name.now)
+        front.now file items
         → GivesHeld (body_text items) result listing.old.buffer listing.new.buffer (O.given out.old) (O.given out.new) }
 {
     let Ok(mut items) = ItemReader::new(alloc, name, front) else {

@@ -2,7 +2,8 @@ ghost use Rattle.std.specs.Prelude.{◌≡◌, ◌||◌, ◌&&◌, MatchResult, 
 ghost use Rattle.std.specs.Option.{option_copied};
 ghost use Rattle.sccs_history.specs.History.{same_sid};
 ghost use Rattle.sccs_sid.specs.declared.refusals.Refusal.TheVariants as refusals;
-ghost use Rattle.sccs_prs.specs.Chosen.{beside, by_cutoff, chosen_of, comes, by_serial, any_serial, is_chosen, live_serial, means_one, chosen_serial, named_serial, newest_live};
+ghost use Rattle.sccs_prs.specs.Chosen.{beside, by_cutoff, chosen_of, comes, by_serial, any_serial, is_chosen};
+ghost use Rattle.sccs_prs.specs.Chosen.{live_serial, means_one, chosen_serial, named_serial, newest_live};
 
 use sccs_history::Record;
 use sccs_sets::NoSid;
@@ -105,7 +106,8 @@ fn by_cutoff(words: &PrsWords, moment: Moment) -> Chosen
 // the deltas by the one that is meant
 fn by_serial(words: &PrsWords, records: &[Record]) -> Result<Chosen, NoSid>
     ensures { MatchResult result
-        (λ chosen. by_serial words.now records.now ≡ Ok chosen) (λ _. by_serial words.now records.now ≡ Err refusals.NoSid) }
+        (λ chosen. by_serial words.now records.now ≡ Ok chosen) (λ _. by_serial words.now records.now
+        ≡ Err refusals.NoSid) }
 {
     match meant(words, records) {
         Some(serial) => Ok(beside(words, serial)),
@@ -117,7 +119,8 @@ fn by_serial(words: &PrsWords, records: &[Record]) -> Result<Chosen, NoSid>
 /// and none does.
 pub fn chosen_of(words: &PrsWords, records: &[Record]) -> Result<Chosen, NoSid>
     ensures { MatchResult result
-        (λ chosen. chosen_of words.now records.now ≡ Ok chosen) (λ _. chosen_of words.now records.now ≡ Err refusals.NoSid) }
+        (λ chosen. chosen_of words.now records.now ≡ Ok chosen) (λ _. chosen_of words.now records.now
+        ≡ Err refusals.NoSid) }
 {
     if let Some(moment) = words.cutoff {
         return Ok(by_cutoff(words, moment));

@@ -51,7 +51,8 @@ fn print_lines<O: Sink, D: Disk>(
     ensures same { D.told disk.new ≡ D.told disk.old }
     ensures causes { PrintCauses result (O.faults out.old) (O.faults out.new) (D.faults disk.old) (D.faults disk.new) }
     ensures checks { RefusesWithin file_checks result }
-    ensures prints { (bytes : List ℕ) (items : List Item) → IsListedFile (bytes_in (seen (D.told disk.old)) file.entry.name.now) file.entry.front.now bytes items
+    ensures prints { (bytes : List ℕ) (items : List Item)
+        → IsListedFile (bytes_in (seen (D.told disk.old)) file.entry.name.now) file.entry.front.now bytes items
         → PrintsAll (delta_lines (shown_file file.entry items) delta.now) result (O.given out.old) (O.given out.new) }
 {
     if delta.removed {
@@ -84,8 +85,10 @@ fn put_lines<O: Sink, D: Disk>(
     ensures same { D.told disk.new ≡ D.told disk.old }
     ensures causes { PrintCauses result (O.faults out.old) (O.faults out.new) (D.faults disk.old) (D.faults disk.new) }
     ensures checks { RefusesWithin file_checks result }
-    ensures gives { (bytes : List ℕ) (items : List Item) → IsListedFile (bytes_in (seen (D.told disk.old)) file.entry.name.now) file.entry.front.now bytes items
-        → GivesHeld (delta_lines (shown_file file.entry items) delta.now) result listing.old.buffer listing.new.buffer (O.given out.old) (O.given out.new) }
+    ensures gives { (bytes : List ℕ) (items : List Item)
+        → IsListedFile (bytes_in (seen (D.told disk.old)) file.entry.name.now) file.entry.front.now bytes items
+        → GivesHeld (delta_lines (shown_file file.entry items) delta.now) result listing.old.buffer listing.new.buffer
+        (O.given out.old) (O.given out.new) }
 {
     if let Err(_) = listing.buffer.flush(out) {
         return Err(StepFault::WriteFault);
@@ -111,8 +114,10 @@ fn put_part<O: Sink, D: Disk>(
     ensures same { D.told disk.new ≡ D.told disk.old }
     ensures causes { PrintCauses result (O.faults out.old) (O.faults out.new) (D.faults disk.old) (D.faults disk.new) }
     ensures checks { RefusesWithin file_checks result }
-    ensures gives { (bytes : List ℕ) (items : List Item) → IsListedFile (bytes_in (seen (D.told disk.old)) file.entry.name.now) file.entry.front.now bytes items
-        → GivesHeld (data_text (shown_file file.entry items) delta.now part) result listing.old.buffer listing.new.buffer (O.given out.old) (O.given out.new) }
+    ensures gives { (bytes : List ℕ) (items : List Item)
+        → IsListedFile (bytes_in (seen (D.told disk.old)) file.entry.name.now) file.entry.front.now bytes items
+        → GivesHeld (data_text (shown_file file.entry items) delta.now part) result listing.old.buffer
+        listing.new.buffer (O.given out.old) (O.given out.new) }
 {
     match part {
         Part::Plain(byte) => put(&mut listing.buffer, &[byte], out),
@@ -140,8 +145,10 @@ fn put_parts<O: Sink, D: Disk>(
     ensures same { D.told disk.new ≡ D.told disk.old }
     ensures causes { PrintCauses result (O.faults out.old) (O.faults out.new) (D.faults disk.old) (D.faults disk.new) }
     ensures checks { RefusesWithin file_checks result }
-    ensures gives { (bytes : List ℕ) (items : List Item) → IsListedFile (bytes_in (seen (D.told disk.old)) file.entry.name.now) file.entry.front.now bytes items
-        → GivesHeld (parts_text parts.now (shown_file file.entry items) delta.now) result listing.old.buffer listing.new.buffer (O.given out.old) (O.given out.new) }
+    ensures gives { (bytes : List ℕ) (items : List Item)
+        → IsListedFile (bytes_in (seen (D.told disk.old)) file.entry.name.now) file.entry.front.now bytes items
+        → GivesHeld (parts_text parts.now (shown_file file.entry items) delta.now) result listing.old.buffer
+        listing.new.buffer (O.given out.old) (O.given out.new) }
 {
     for part in parts {
         if let Err(fault) = put_part(alloc, *part, file, facts, delta, listing, out, disk) {
@@ -167,8 +174,10 @@ pub fn put_delta<O: Sink, D: Disk>(
     ensures same { D.told disk.new ≡ D.told disk.old }
     ensures causes { PrintCauses result (O.faults out.old) (O.faults out.new) (D.faults disk.old) (D.faults disk.new) }
     ensures checks { RefusesWithin file_checks result }
-    ensures gives { (bytes : List ℕ) (items : List Item) → IsListedFile (bytes_in (seen (D.told disk.old)) file.entry.name.now) file.entry.front.now bytes items
-        → GivesHeld (ended (parts_text parts.now (shown_file file.entry items) delta.now)) result listing.old.buffer listing.new.buffer (O.given out.old) (O.given out.new) }
+    ensures gives { (bytes : List ℕ) (items : List Item)
+        → IsListedFile (bytes_in (seen (D.told disk.old)) file.entry.name.now) file.entry.front.now bytes items
+        → GivesHeld (ended (parts_text parts.now (shown_file file.entry items) delta.now)) result listing.old.buffer
+        listing.new.buffer (O.given out.old) (O.given out.new) }
 {
     let header = &file.front.header;
     let Ok(facts) = identification_facts(alloc, header, file.name, file.place, delta) else {

@@ -58,7 +58,8 @@ pub fn put_item<O: Sink>(
 ) -> Result<(), StepFault>
     requires spelled { HasSpelling delta.now }
     requires crash_points { HasMoments facts.now }
-    ensures gives { GivesHeld (item_text header.now facts.now delta.now item) result listing.old.buffer listing.new.buffer (O.given out.old) (O.given out.new) }
+    ensures gives { GivesHeld (item_text header.now facts.now delta.now item) result listing.old.buffer
+        listing.new.buffer (O.given out.old) (O.given out.new) }
     ensures causes { (disk : ℕ) → PrintCauses result (O.faults out.old) (O.faults out.new) disk disk }
     ensures checks { RefusesWithin file_checks result }
 {

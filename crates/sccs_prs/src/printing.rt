@@ -56,8 +56,10 @@ fn put_shown<O: Sink, D: Disk>(
     ensures same { D.told disk.new ≡ D.told disk.old }
     ensures causes { PrintCauses result (O.faults out.old) (O.faults out.new) (D.faults disk.old) (D.faults disk.new) }
     ensures checks { RefusesWithin file_checks result }
-    ensures gives { (bytes : List ℕ) (items : List Item) → IsListedFile (bytes_in (seen (D.told disk.old)) file.entry.name.now) file.entry.front.now bytes items
-        → GivesHeld (shown_text all chosen parts.now (shown_file file.entry items) delta.now) result listing.old.buffer listing.new.buffer (O.given out.old) (O.given out.new) }
+    ensures gives { (bytes : List ℕ) (items : List Item)
+        → IsListedFile (bytes_in (seen (D.told disk.old)) file.entry.name.now) file.entry.front.now bytes items
+        → GivesHeld (shown_text all chosen parts.now (shown_file file.entry items) delta.now) result listing.old.buffer
+        listing.new.buffer (O.given out.old) (O.given out.new) }
 {
     if comes(all, chosen, delta) {
         put_delta(alloc, parts, file, delta, listing, out, disk)
@@ -83,8 +85,10 @@ fn put_deltas<O: Sink, D: Disk>(
     ensures same { D.told disk.new ≡ D.told disk.old }
     ensures causes { PrintCauses result (O.faults out.old) (O.faults out.new) (D.faults disk.old) (D.faults disk.new) }
     ensures checks { RefusesWithin file_checks result }
-    ensures gives { (bytes : List ℕ) (items : List Item) → IsListedFile (bytes_in (seen (D.told disk.old)) file.entry.name.now) file.entry.front.now bytes items
-        → GivesHeld (deltas_text all chosen parts.now (shown_file file.entry items) file.entry.front.now.header.records) result listing.old.buffer listing.new.buffer (O.given out.old) (O.given out.new) }
+    ensures gives { (bytes : List ℕ) (items : List Item)
+        → IsListedFile (bytes_in (seen (D.told disk.old)) file.entry.name.now) file.entry.front.now bytes items
+        → GivesHeld (deltas_text all chosen parts.now (shown_file file.entry items) file.entry.front.now.header.records)
+        result listing.old.buffer listing.new.buffer (O.given out.old) (O.given out.new) }
 {
     for delta in file.front.header.records.items() {
         if let Err(fault) = put_shown(alloc, all, chosen, parts, file, delta, listing, out, disk) {
@@ -101,7 +105,8 @@ fn put_name<O: Sink>(
     listing: &mut Listing,
     out: &mut O,
 ) -> Result<(), StepFault>
-    ensures gives { GivesHeld (name_text words.now name.now) result listing.old.buffer listing.new.buffer (O.given out.old) (O.given out.new) }
+    ensures gives { GivesHeld (name_text words.now name.now) result listing.old.buffer listing.new.buffer
+        (O.given out.old) (O.given out.new) }
     ensures causes { (disk : ℕ) → PrintCauses result (O.faults out.old) (O.faults out.new) disk disk }
     ensures checks { RefusesWithin file_checks result }
 {
@@ -130,8 +135,10 @@ fn put_report<O: Sink, D: Disk>(
     ensures same { D.told disk.new ≡ D.told disk.old }
     ensures causes { PrintCauses result (O.faults out.old) (O.faults out.new) (D.faults disk.old) (D.faults disk.new) }
     ensures checks { RefusesWithin file_checks result }
-    ensures gives { (bytes : List ℕ) (items : List Item) → IsListedFile (bytes_in (seen (D.told disk.old)) file.entry.name.now) file.entry.front.now bytes items
-        → GivesHeld (report_text words.now chosen (shown_file file.entry items)) result listing.old.buffer listing.new.buffer (O.given out.old) (O.given out.new) }
+    ensures gives { (bytes : List ℕ) (items : List Item)
+        → IsListedFile (bytes_in (seen (D.told disk.old)) file.entry.name.now) file.entry.front.now bytes items
+        → GivesHeld (report_text words.now chosen (shown_file file.entry items)) result listing.old.buffer
+        listing.new.buffer (O.given out.old) (O.given out.new) }
 {
     let Ok(parts) = read_parts(alloc, spec_of(words)) else {
         return Err(StepFault::Memory);
@@ -168,7 +175,8 @@ pub fn print_report<O: Sink, D: Disk>(
     ensures same { D.told disk.new ≡ D.told disk.old }
     ensures causes { PrintCauses result (O.faults out.old) (O.faults out.new) (D.faults disk.old) (D.faults disk.new) }
     ensures checks { RefusesWithin file_checks result }
-    ensures prints { (bytes : List ℕ) (items : List Item) → IsListedFile (bytes_in (seen (D.told disk.old)) file.entry.name.now) file.entry.front.now bytes items
+    ensures prints { (bytes : List ℕ) (items : List Item)
+        → IsListedFile (bytes_in (seen (D.told disk.old)) file.entry.name.now) file.entry.front.now bytes items
         → PrintsAll (report_text words.now chosen (shown_file file.entry items)) result
         (O.given out.old) (O.given out.new) }
 {

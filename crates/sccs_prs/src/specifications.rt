@@ -1,5 +1,6 @@
 ghost use Rattle.std.specs.Prelude.{◌≡◌, ◌≤◌, ◌<◌, ◌+◌, ◌∷◌, length, IfOk};
-ghost use Rattle.sccs_prs.specs.DataKeywords.{behind_backslash, behind_colon, found_part, keyed, of_two, data_parts, plain_byte};
+ghost use Rattle.sccs_prs.specs.DataKeywords.{behind_backslash, behind_colon, found_part, keyed, of_two, data_parts};
+ghost use Rattle.sccs_prs.specs.DataKeywords.{plain_byte};
 
 use crate::keywords::{Part, keyword_of};
 use sccs_base::{ListOf, Memory};

@@ -38,7 +38,8 @@ fn show<O: Sink, D: Disk>(
     disk: &mut D,
 ) -> Result<(), StepFault>
     requires { IsSFileName name.now }
-    ensures shows { IfSome (seen (D.told disk.old)) (λ (v : View). ShowsOutcome name.now (prs_outcome words.now place.now name.now (look v name.now)) result (O.given out.old) (O.given out.new)) }
+    ensures shows { IfSome (seen (D.told disk.old)) (λ (v : View). ShowsOutcome name.now
+        (prs_outcome words.now place.now name.now (look v name.now)) result (O.given out.old) (O.given out.new)) }
     ensures same { D.told disk.new ≡ D.told disk.old }
     ensures causes { PrintCauses result (O.faults out.old) (O.faults out.new) (D.faults disk.old) (D.faults disk.new) }
     ensures checks { RefusesWithin prs_checks result }

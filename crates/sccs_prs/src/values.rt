@@ -63,14 +63,16 @@ pub fn identification_facts(
 // gives what get puts in the place of an identification keyword
 fn give_identified<S: Sink>(letter: u8, facts: &Facts, out: &mut S) -> Result<(), Failed>
     requires { HasMoments facts.now }
-    ensures { GivesText (identified facts.now letter) (S.given out.old) (S.given out.new) (S.faults out.old) (S.faults out.new) result }
+    ensures { GivesText (identified facts.now letter) (S.given out.old) (S.given out.new) (S.faults out.old)
+        (S.faults out.new) result }
 {
     expand(&[b'%', letter, b'%'], 0, facts, out)
 }
 
 // gives a number in decimal
 fn give_number<S: Sink>(number: u16, out: &mut S) -> Result<(), Failed>
-    ensures { GivesText (decimal number) (S.given out.old) (S.given out.new) (S.faults out.old) (S.faults out.new) result }
+    ensures { GivesText (decimal number) (S.given out.old) (S.given out.new) (S.faults out.old)
+        (S.faults out.new) result }
 {
     out.give(Buffer::new().format(number).as_bytes())
 }
@@ -90,7 +92,9 @@ fn give_words<'a, S: Sink>(
     delta: &'a Record,
     out: &mut S,
 ) -> Result<(), Failed>
-    ensures { GivesText (kind.now ++ (32 ∷ sid.now ++ (32 ∷ moment.now ++ (32 ∷ delta.now.login ++ (32 ∷ decimal delta.now.serial ++ (32 ∷ decimal delta.now.predecessor))))))
+    ensures { GivesText (kind.now
+        ++ (32 ∷ sid.now ++ (32 ∷ moment.now ++ (32 ∷ delta.now.login ++ (32 ∷ decimal delta.now.serial
+        ++ (32 ∷ decimal delta.now.predecessor))))))
         (S.given out.old) (S.given out.new) (S.faults out.old) (S.faults out.new) result }
 {
     let (mut serial, mut predecessor) = (Buffer::new(), Buffer::new());
@@ -117,7 +121,8 @@ fn give_words<'a, S: Sink>(
 // gives kind, SID, date, time, login, serial and predecessor
 fn give_delta<S: Sink>(delta: &Record, out: &mut S) -> Result<(), Failed>
     requires { HasSpelling delta.now }
-    ensures { GivesText (delta_text delta.now) (S.given out.old) (S.given out.new) (S.faults out.old) (S.faults out.new) result }
+    ensures { GivesText (delta_text delta.now) (S.given out.old) (S.given out.new) (S.faults out.old)
+        (S.faults out.new) result }
 {
     let mut row = [0; DETAIL_ROOM];
     let sid = delta.sid.text(&mut row);
@@ -126,7 +131,8 @@ fn give_delta<S: Sink>(delta: &Record, out: &mut S) -> Result<(), Failed>
 
 // gives the numbers of lines inserted, deleted and unchanged
 fn give_counts<S: Sink>(delta: &Record, out: &mut S) -> Result<(), Failed>
-    ensures { GivesText (counts_text delta.now) (S.given out.old) (S.given out.new) (S.faults out.old) (S.faults out.new) result }
+    ensures { GivesText (counts_text delta.now) (S.given out.old) (S.given out.new) (S.faults out.old)
+        (S.faults out.new) result }
 {
     let inserted = five_digits(delta.inserted);
     let deleted = five_digits(delta.deleted);
@@ -154,7 +160,8 @@ fn yes_or_no(yes: bool) -> &'static [u8]
 fn give_unit<S: Sink>(moment: &Moment, place: usize, out: &mut S) -> Result<(), Failed>
     requires moment { IsMoment moment.now }
     requires place { place ≤ 15 }
-    ensures { GivesText (take 2 (drop place (moment_text moment.now))) (S.given out.old) (S.given out.new) (S.faults out.old) (S.faults out.new) result }
+    ensures { GivesText (take 2 (drop place (moment_text moment.now))) (S.given out.old) (S.given out.new)
+        (S.faults out.old) (S.faults out.new) result }
 {
     let text = moment.text();
     out.give(&text[place..place + 2])
@@ -170,7 +177,8 @@ pub fn give_item<S: Sink>(
 ) -> Result<(), Failed>
     requires spelled { HasSpelling delta.now }
     requires crash_points { HasMoments facts.now }
-    ensures { GivesText (item_text header.now facts.now delta.now item) (S.given out.old) (S.given out.new) (S.faults out.old) (S.faults out.new) result }
+    ensures { GivesText (item_text header.now facts.now delta.now item) (S.given out.old) (S.given out.new)
+        (S.faults out.old) (S.faults out.new) result }
 {
     match item {
         DataItem::Identification(letter) => give_identified(letter, facts, out),

@@ -1,5 +1,6 @@
 -- The RCS file of a name has a name.
-use Rattle.std.proofs.Common.{◌≡◌, ℕ, zero, suc, ◌+◌, ◌-◌, ◌<◌, ◌≤◌, List, [], ◌∷◌, ◌++◌, length, drop, All, true, false, ap, subst, ◌∙◌, arith, length-append, length-drop}
+use Rattle.std.proofs.Common.{◌≡◌, ℕ, zero, suc, ◌+◌, ◌-◌, ◌<◌, ◌≤◌, List, [], ◌∷◌, ◌++◌, length, drop, All, true}
+use Rattle.std.proofs.Common.{false, ap, subst, ◌∙◌, arith, length-append, length-drop}
 use Rattle.std.specs.Str.{IsAscii}
 use Rattle.std.proofs.lemmas.List.Elements.{All-append, All-cons}
 use Rattle.std.proofs.lemmas.Str.{IsUtf8-append, IsUtf8-from_ascii}
@@ -16,7 +17,19 @@ longer n sfile low = (omega (arith, sizes, some), omega (arith, sizes, some, low
     some = subst (λ k. 0 < k) (length-drop 2 n) sfile.rest.some
 
 suffix_plain : All IsPlain (44 ∷ 118 ∷ [])
-suffix_plain = All-cons IsPlain 44 (118 ∷ []) ((λ e. omega (arith, e)), ((λ e. omega (arith, e)), (λ e. omega (arith, e)))) (All-cons IsPlain 118 [] ((λ e. omega (arith, e)), ((λ e. omega (arith, e)), (λ e. omega (arith, e)))) (λ k d low. absurd (omega arith)))
+suffix_plain = All-cons IsPlain 44 (118 ∷ []) (
+  (λ e. omega (arith, e)),
+  (
+    (λ e. omega (arith, e)),
+    (λ e. omega (arith, e)),
+  ),
+) (All-cons IsPlain 118 [] (
+  (λ e. omega (arith, e)),
+  (
+    (λ e. omega (arith, e)),
+    (λ e. omega (arith, e)),
+  ),
+) (λ k d low. absurd (omega arith)))
 
 suffix_ascii : IsAscii (44 ∷ 118 ∷ [])
 suffix_ascii zero = omega arith
@@ -39,7 +52,8 @@ pub rcs_is_name : (n : List ℕ) → IsSFileName n → IsName n → is_name (rcs
 rcs_is_name n sfile name = (name_decides (rcs_file n)).1 (is_rcs_name n sfile name.short)
 
 -- bytes that are those of the RCS file of a name are a name
-pub not_none : (n rest b empty first second bytes : List ℕ) → IsSFileName n → IsName n → rest ≡ drop 2 n → b ≡ rest → empty ≡ [] → first ≡ empty ++ b → second ≡ first ++ 44 ∷ 118 ∷ [] → bytes ≡ second
+pub not_none : (n rest b empty first second bytes : List ℕ) → IsSFileName n → IsName n → rest ≡ drop 2 n → b ≡ rest
+    → empty ≡ [] → first ≡ empty ++ b → second ≡ first ++ 44 ∷ 118 ∷ [] → bytes ≡ second
     → false ≡ is_name bytes → ⊥
 not_none n rest b empty first second bytes sfile name rest-is b-is empty-is first-is second-is bytes-is none =
     let front : first ≡ drop 2 n = first-is ∙ (ap (λ l. l ++ b) empty-is ∙ (b-is ∙ rest-is)) in

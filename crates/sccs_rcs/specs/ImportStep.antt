@@ -1,5 +1,7 @@
--- What import does with a name that is to become an s-file: it gets the trunk of the RCS file beside it. rcsfile(5); sccsfile(4).
-use Rattle.std.specs.Prelude.{ℕ, Bool, false, List, [], ◌∷◌, ◌++◌, drop, length, nat_le, codes, Option, None, Some, is_none, Result, Ok, Err}
+-- What import does with a name that is to become an s-file: it gets the trunk of the RCS file beside it. rcsfile(5);
+-- sccsfile(4).
+use Rattle.std.specs.Prelude.{ℕ, Bool, false, List, [], ◌∷◌, ◌++◌, drop, length, nat_le, codes, Option, None, Some}
+use Rattle.std.specs.Prelude.{is_none, Result, Ok, Err}
 use Rattle.std.specs.Fmt.{decimal}
 use Rattle.sccs_base.specs.Constants.{file_limit}
 use Rattle.sccs_sid.specs.Reading.{◌>>=◌}
@@ -66,7 +68,13 @@ import_report heading n rcs = heading_text heading n ++ (decimal (length rcs.rev
 -- the new s-file, and all else as it was
 abbrev pub imports : Bool → List ℕ → Files → Rcs → Outcome
 imports heading n f rcs =
-    Ok (record { new = Some (record { s = Some (rcs_content rcs); p = f.p; z = None; g = f.g; l = f.l }); text = []; out = import_report heading n rcs; err = []; status = 0 })
+    Ok (record {
+      new = Some (record { s = Some (rcs_content rcs); p = f.p; z = None; g = f.g; l = f.l });
+      text = [];
+      out = import_report heading n rcs;
+      err = [];
+      status = 0;
+    })
 
 -- a new s-file of the trunk, where the checks pass
 unfoldable pub import_outcome : Bool → Step
@@ -76,4 +84,12 @@ import_outcome heading n input named f = do
 
 abbrev pub import_change : Bool → Changing
 import_change heading =
-    record { outcome = import_outcome heading; named = λ n. rcs_file n ∷ []; takes = false; silent = false; early = false; could = quiet_checks import_checks }
+    record {
+      outcome = import_outcome heading;
+      named = λ n. rcs_file n ∷ [];
+      takes = false;
+      silent = false;
+      early =
+          false;
+      could = quiet_checks import_checks;
+    }

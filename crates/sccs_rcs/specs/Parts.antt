@@ -1,5 +1,6 @@
 -- What the parts of import answer, where a view is told.
-use Rattle.std.specs.Prelude.{◌≡◌, ℕ, suc, ◌<◌, ◌≤◌, Bool, true, List, [], ◌∷◌, length, Option, None, Some, IfSome, IsSome, Result, Ok, Err, slice_get}
+use Rattle.std.specs.Prelude.{◌≡◌, ℕ, suc, ◌<◌, ◌≤◌, Bool, true, List, [], ◌∷◌, length, Option, None, Some, IfSome}
+use Rattle.std.specs.Prelude.{IsSome, Result, Ok, Err, slice_get}
 use Rattle.std.specs.Str.{bytes_eq}
 use Rattle.sccs_base.specs.Constants.{file_limit}
 use Rattle.sccs_base.specs.Name.{x_file}
@@ -88,6 +89,7 @@ pub record IsImported (said : List ℕ) (p : Prepared) : Type 0 where
 
 -- the x-file is that of the trunk; or at most the x-file has changed
 abbrev pub WritesRcs : Result Prepared StepFault → Bool → Rcs → List ℕ → Option View → Option View → Type 0
-WritesRcs (Ok p) heading rcs n old new = IsImported (import_report heading n rcs) p × Becomes (λ v. put v (x_file n) (Some (rcs_content rcs))) old new
+WritesRcs (Ok p) heading rcs n old new = IsImported (import_report heading n rcs) p
+    × Becomes (λ v. put v (x_file n) (Some (rcs_content rcs))) old new
 WritesRcs (Err (Refused refusal)) heading rcs n old new = ⊥
 WritesRcs (Err fault) heading rcs n old new = Moves (bytes_eq (x_file n)) (λ v. v) old new

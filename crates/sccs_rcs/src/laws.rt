@@ -6,7 +6,8 @@ ghost use Rattle.sccs_history.specs.History.{IsRooted};
 ghost use Rattle.sccs_rcs.specs.ImportStep.{rcs_content};
 ghost use Rattle.sccs_trunks.specs.TrunkItems.{items_of};
 ghost use Rattle.sccs_rcs_file.specs.Trunk.{rcs_read};
-ghost use Rattle.sccs_trunks.specs.TrunkHistories.{IsTrunk, head_text, history_of, scripts_of, text_behind, trunk_scripts};
+ghost use Rattle.sccs_trunks.specs.TrunkHistories.{IsTrunk, head_text, history_of, scripts_of, text_behind};
+ghost use Rattle.sccs_trunks.specs.TrunkHistories.{trunk_scripts};
 ghost use Rattle.sccs_trunks.specs.declared.revisions.Rcs.{Rcs};
 
 /// What is read of an RCS file is a trunk, and each of its scripts is fit for the text before it.
@@ -24,6 +25,7 @@ pub fn imported_files_are_read()
         → IsSFile (rcs_content rcs).bytes (history_of rcs).header (items_of (history_of rcs).lines) }
     ensures rooted { (rcs : Rcs) → IsRooted (history_of rcs) }
     ensures versions { (bytes : List ℕ) (rcs : Rcs) (n : ℕ) → rcs_read bytes ≡ Ok rcs → n < length rcs.revisions
-        → version (length rcs.revisions - n) (history_of rcs).header.records (lines_of (items_of (history_of rcs).lines))
+        → version (length rcs.revisions - n) (history_of rcs).header.records
+        (lines_of (items_of (history_of rcs).lines))
         ≡ text_behind n rcs }
 {}

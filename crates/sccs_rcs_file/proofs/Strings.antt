@@ -1,5 +1,6 @@
 -- The bytes of a string, so many at a time.
-use Rattle.std.proofs.Common.{◌≡◌, ℕ, zero, suc, ◌+◌, ◌-◌, List, [], ◌∷◌, ◌++◌, length, take, drop, Option, None, Some, refl, sym, ap, ◌∙◌, arith, append-nil, append_assoc}
+use Rattle.std.proofs.Common.{◌≡◌, ℕ, zero, suc, ◌+◌, ◌-◌, List, [], ◌∷◌, ◌++◌, length, take, drop, Option, None, Some}
+use Rattle.std.proofs.Common.{refl, sym, ap, ◌∙◌, arith, append-nil, append_assoc}
 use Rattle.std.proofs.lemmas.List.{drop-drop}
 use Rattle.sccs_sid.proofs.Digits.{rest_from}
 use Rattle.sccs_rcs_file.specs.Tokens.{string_in, with_raw}
@@ -24,22 +25,26 @@ take_both (suc n) m (b ∷ bytes) = ap (λ l. b ∷ l) (take_both n m bytes) ∙
     same = omega arith
 
 -- where it ends
-pub string_ends : (bytes : List ℕ) (n : ℕ) → string_in (take (length bytes - n) (drop n bytes)) ≡ Some ([], drop 1 (take (length bytes - n) (drop n bytes)))
+pub string_ends : (bytes : List ℕ) (n : ℕ) → string_in (take (length bytes - n) (drop n bytes)) ≡ Some
+    ([], drop 1 (take (length bytes - n) (drop n bytes)))
     → with_raw (take n bytes) (string_in (drop n bytes)) ≡ string_in bytes
     → Some (take n bytes, take (length bytes - (n + 1)) (drop (n + 1) bytes)) ≡ string_in bytes
 string_ends bytes n ends so_far =
     ap (λ l. Some (take n bytes, l)) (rest_from (n + 1) bytes ∙ sym (drop-drop 1 n bytes))
     ∙ (ap (λ l. Some (l, drop 1 (drop n bytes))) (sym (append-nil (take n bytes)))
     ∙ (ap (λ l. with_raw (take n bytes) (Some ([], drop 1 l))) (sym (rest_from n bytes))
-    ∙ (ap (λ o. with_raw (take n bytes) o) (sym ends) ∙ (ap (λ l. with_raw (take n bytes) (string_in l)) (rest_from n bytes) ∙ so_far))))
+    ∙ (ap (λ o. with_raw (take n bytes) o) (sym ends) ∙ (ap (λ l. with_raw (take n bytes) (string_in l))
+    (rest_from n bytes) ∙ so_far))))
 
 -- where it goes on
 pub string_goes_on : (bytes : List ℕ) (n more : ℕ)
-    → string_in (take (length bytes - n) (drop n bytes)) ≡ with_raw (take more (take (length bytes - n) (drop n bytes))) (string_in (drop more (take (length bytes - n) (drop n bytes))))
+    → string_in (take (length bytes - n) (drop n bytes)) ≡ with_raw (take more (take (length bytes - n) (drop n bytes)))
+    (string_in (drop more (take (length bytes - n) (drop n bytes))))
     → with_raw (take n bytes) (string_in (drop n bytes)) ≡ string_in bytes
     → with_raw (take (n + more) bytes) (string_in (drop (n + more) bytes)) ≡ string_in bytes
 string_goes_on bytes n more goes so_far =
     ap (λ l. with_raw l (string_in (drop (n + more) bytes))) (sym (take_both n more bytes))
     ∙ (ap (λ l. with_raw (take n bytes ++ take more (drop n bytes)) (string_in l)) (sym (drop-drop more n bytes))
     ∙ (sym (raw_both (take n bytes) (take more (drop n bytes)) (string_in (drop more (drop n bytes))))
-    ∙ (ap (λ o. with_raw (take n bytes) o) (ap (λ l. with_raw (take more l) (string_in (drop more l))) (sym (rest_from n bytes)) ∙ (sym goes ∙ ap string_in (rest_from n bytes))) ∙ so_far)))
+    ∙ (ap (λ o. with_raw (take n bytes) o) (ap (λ l. with_raw (take more l) (string_in (drop more l)))
+    (sym (rest_from n bytes)) ∙ (sym goes ∙ ap string_in (rest_from n bytes))) ∙ so_far)))

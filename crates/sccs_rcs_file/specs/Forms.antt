@@ -39,12 +39,14 @@ entries_tokens (e ∷ entries) = Number e.number ∷ phrases_tokens e.phrases ++
 abbrev pub texts_tokens : List DeltaText → List Token
 texts_tokens [] = []
 texts_tokens (t ∷ texts) =
-    Number t.number ∷ Word (codes "log") ∷ Quoted t.log ∷ phrases_tokens t.phrases ++ Word (codes "text") ∷ Quoted t.text ∷ texts_tokens texts
+    Number t.number ∷ Word (codes "log") ∷ Quoted t.log ∷ phrases_tokens t.phrases ++ Word (codes "text")
+    ∷ Quoted t.text ∷ texts_tokens texts
 
 -- the tokens of a file
 abbrev pub file_tokens : RcsFile → List Token
 file_tokens f =
-    phrases_tokens f.head ++ (entries_tokens f.entries ++ Word (codes "desc") ∷ Quoted f.description ∷ texts_tokens f.texts)
+    phrases_tokens f.head ++ (entries_tokens f.entries ++ Word (codes "desc") ∷ Quoted f.description
+    ∷ texts_tokens f.texts)
 
 abbrev pub is_semicolon : Token → Bool
 is_semicolon Semicolon = true
@@ -88,11 +90,13 @@ pub record AreViable (tokens : List Token) : Type 0 where
   pub more : List Token
   pub whole : file_tokens file ≡ tokens ++ more
 
--- what comes behind tokens can't: the end, where they are no file; or bytes that are no token, or a token with which they
+-- what comes behind tokens can't: the end, where they are no file; or bytes that are no token, or a token with which
+-- they
 -- can't be followed to a file
 abbrev pub Fails : List Token → ℕ → List Lexeme → Type 0
 Fails tokens left [] = (left ≡ 0) × ((f : RcsFile) → IsFile f → file_tokens f ≡ tokens → ⊥)
-Fails tokens left (l ∷ rest) = (left ≡ l.left) × ((token : Token) → l.token ≡ Some token → AreViable (tokens ++ token ∷ []) → ⊥)
+Fails tokens left (l ∷ rest) = (left ≡ l.left) × ((token : Token) → l.token ≡ Some token
+    → AreViable (tokens ++ token ∷ []) → ⊥)
 
 -- Bytes fail where so many are left: the tokens before can be followed to a file, and what comes there can't.
 pub record FailsAt (bytes : List ℕ) (left : ℕ) : Type 0 where

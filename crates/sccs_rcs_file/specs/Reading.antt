@@ -1,5 +1,6 @@
 -- The reading of an RCS file, token by token: where it stands and what was read, and the first token that can't come.
-use Rattle.std.specs.Prelude.{◌≡◌, ℕ, suc, ◌-◌, length, Bool, true, false, List, [], ◌∷◌, ◌++◌, codes, Option, None, Some, Result, Ok, Err, if◌then◌else◌}
+use Rattle.std.specs.Prelude.{◌≡◌, ℕ, suc, ◌-◌, length, Bool, true, false, List, [], ◌∷◌, ◌++◌, codes, Option, None}
+use Rattle.std.specs.Prelude.{Some, Result, Ok, Err, if◌then◌else◌}
 use Rattle.std.specs.Str.{bytes_eq}
 use Rattle.sccs_rcs_file.specs.Forms.{Phrase, RcsFile}
 use Rattle.sccs_rcs_file.specs.TokenValues.{Token, Number, Word, Quoted, Semicolon}
@@ -7,7 +8,9 @@ use Rattle.sccs_rcs_file.specs.Tokens.{Lexeme, lexemes}
 use Rattle.sccs_rcs_file.specs.declared.faults.RcsFault.{RcsFault}
 use Rattle.sccs_rcs_file.specs.declared.faults.RcsFault.TheVariants.{BadRcs, BadRevision, RcsScript, Memory}
 use Rattle.sccs_rcs_file.specs.declared.places.Place.{Place}
-use Rattle.sccs_rcs_file.specs.declared.places.Place.TheVariants.{HeadPhrases, HeadPhrase, EntryPhrases, EntryPhrase, Description, Texts, Log, LogText, TextPhrases, TextPhrase, Text}
+use Rattle.sccs_rcs_file.specs.declared.places.Place.TheVariants.{HeadPhrases, HeadPhrase, EntryPhrases, EntryPhrase}
+use Rattle.sccs_rcs_file.specs.declared.places.Place.TheVariants.{Description, Texts, Log, LogText, TextPhrases}
+use Rattle.sccs_rcs_file.specs.declared.places.Place.TheVariants.{TextPhrase, Text}
 
 -- Where reading stands, what was read of the file, and what of an entry, a text and a phrase that aren't ended yet.
 pub record State : Type 0 where
@@ -31,7 +34,13 @@ opened place word s = record s { place = place; name = word; inside = [] }
 
 -- a token of a phrase, or the semicolon that ends it
 abbrev pub in_phrase : Place → State → Token → Option State
-in_phrase place s Semicolon = Some (record s { place = place; phrases = s.phrases ++ record { name = s.name; inside = s.inside } ∷ []; inside = [] })
+in_phrase place s Semicolon =
+    Some (record s {
+      place = place;
+      phrases = s.phrases ++ record { name = s.name; inside = s.inside } ∷ [];
+      inside =
+          [];
+    })
 in_phrase place s token = Some (record s { inside = s.inside ++ token ∷ [] })
 
 -- the phrases of the head are ended, or those of an entry, or a text
@@ -42,7 +51,14 @@ abbrev pub with_entry : State → RcsFile
 with_entry s = record s.file { entries = s.file.entries ++ record { number = s.number; phrases = s.phrases } ∷ [] }
 
 abbrev pub with_text : List ℕ → State → RcsFile
-with_text raw s = record s.file { texts = s.file.texts ++ record { number = s.number; log = s.log; phrases = s.phrases; text = raw } ∷ [] }
+with_text raw s = record s.file {
+  texts = s.file.texts ++ record {
+    number = s.number;
+    log = s.log;
+    phrases = s.phrases;
+    text = raw;
+  } ∷ [];
+}
 
 -- an entry is begun, or the description comes
 abbrev pub entry_begun : RcsFile → List ℕ → State → State
@@ -53,7 +69,8 @@ description_next file s = record s { place = Description; file = file; phrases =
 
 -- what a token does where phrases of the head or of an entry may come, by the file with those that came
 abbrev pub between : RcsFile → Place → State → Token → Option State
-between file place s (Word word) = Some (if bytes_eq word (codes "desc") then description_next file s else opened place word s)
+between file place s (Word word) = Some (if bytes_eq word (codes "desc") then description_next file s
+    else opened place word s)
 between file place s (Number number) = Some (entry_begun file number s)
 between file place s token = None
 
@@ -67,7 +84,8 @@ step_at Description s (Quoted raw) = Some (record s { place = Texts; file = reco
 step_at Texts s (Number number) = Some (record s { place = Log; number = number })
 step_at Log s (Word word) = if bytes_eq word (codes "log") then Some (record s { place = LogText }) else None
 step_at LogText s (Quoted raw) = Some (record s { place = TextPhrases; log = raw; phrases = [] })
-step_at TextPhrases s (Word word) = Some (if bytes_eq word (codes "text") then record s { place = Text } else opened TextPhrase word s)
+step_at TextPhrases s (Word word) = Some (if bytes_eq word (codes "text") then record s { place = Text }
+    else opened TextPhrase word s)
 step_at TextPhrase s token = in_phrase TextPhrases s token
 step_at Text s (Quoted raw) = Some (record s { place = Texts; file = with_text raw s; phrases = [] })
 step_at place s token = None

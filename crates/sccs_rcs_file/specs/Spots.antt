@@ -13,7 +13,8 @@ use Rattle.sccs_rcs_file.specs.declared.spots.Spot.{Spot}
 abbrev pub spot_from : {A : Type 0} → (A → List ℕ) → ℕ → List A → List ℕ → Option Spot
 spot_from name_of at [] name = None
 spot_from name_of at (x ∷ items) name =
-    if bytes_eq (name_of x) name then Some (record { at = at; again = not (is_empty (named name_of name items)) }) else spot_from name_of (suc at) items name
+    if bytes_eq (name_of x) name then Some (record { at = at; again = not (is_empty (named name_of name items)) })
+    else spot_from name_of (suc at) items name
 
 -- what a map has at a name
 abbrev pub spot_at : BTreeMap (Bor (List ℕ)) Spot → List ℕ → Option Spot

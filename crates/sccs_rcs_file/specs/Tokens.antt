@@ -1,5 +1,6 @@
 -- The tokens of an RCS file (rcsfile(5)), by longest match. What stands between them are the bytes 8 to 13 and 32.
-use Rattle.std.specs.Prelude.{◌≡◌, ℕ, zero, suc, ◌<◌, ◌==◌, nat_le, nat_lt, Bool, not, ◌&&◌, ◌||◌, List, [], ◌∷◌, ◌++◌, length, Option, None, Some, Result, Ok, Err, if◌then◌else◌}
+use Rattle.std.specs.Prelude.{◌≡◌, ℕ, zero, suc, ◌<◌, ◌==◌, nat_le, nat_lt, Bool, not, ◌&&◌, ◌||◌, List, [], ◌∷◌, ◌++◌}
+use Rattle.std.specs.Prelude.{length, Option, None, Some, Result, Ok, Err, if◌then◌else◌}
 use Rattle.std.specs.List.{list_all}
 use Rattle.sccs_rcs_file.specs.declared.tokens.Lexed.{Lexed}
 use Rattle.sccs_rcs_file.specs.TokenValues.{Token, Number, Word, Quoted, Semicolon, Colon}
@@ -99,4 +100,5 @@ abbrev pub Lexes : List ℕ → Result (Option Lexed) ℕ → Type 0
 Lexes bytes (Err left) = lexemes bytes ≡ record { token = None; left = left } ∷ []
 Lexes bytes (Ok None) = lexemes bytes ≡ []
 Lexes bytes (Ok (Some found)) =
-    (lexemes bytes ≡ record { token = Some found.token; left = found.left } ∷ lexemes found.rest.now) × (length found.rest.now < length bytes)
+    (lexemes bytes ≡ record { token = Some found.token; left = found.left } ∷ lexemes found.rest.now)
+    × (length found.rest.now < length bytes)

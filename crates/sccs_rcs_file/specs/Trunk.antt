@@ -1,5 +1,7 @@
 -- The trunk of an RCS file: the revisions from the one that `head` names on, each by `next` of the one before.
-use Rattle.std.specs.Prelude.{◌-◌, ◌≡◌, ℕ, zero, suc, ◌+◌, ◌%◌, ◌==◌, nat_le, Bool, true, ◌&&◌, List, [], ◌∷◌, ◌++◌, length, codes, Option, None, Some, option_map, option_and_then, Result, Ok, Err, if◌then◌else◌}
+use Rattle.std.specs.Prelude.{◌-◌, ◌≡◌, ℕ, zero, suc, ◌+◌, ◌%◌, ◌==◌, nat_le, Bool, true, ◌&&◌, List, [], ◌∷◌, ◌++◌}
+use Rattle.std.specs.Prelude.{length, codes, Option, None, Some, option_map, option_and_then, Result, Ok, Err}
+use Rattle.std.specs.Prelude.{if◌then◌else◌}
 use Rattle.sccs_base.specs.Cut.{text_of}
 use Rattle.sccs_base.specs.Login.{is_login}
 use Rattle.sccs_sid.specs.Moment.{moment_of, two}
@@ -77,7 +79,8 @@ pub record DatePieces : Type 0 where
 abbrev pub moment_in : ℕ → DatePieces → Option Moment
 moment_in year p =
     if nat_le 1969 year && nat_le year 2068
-    then found (moment_of (two (year % 100) ++ (47 ∷ p.month ++ (47 ∷ p.day))) (p.hour ++ (58 ∷ p.minute ++ (58 ∷ p.second))))
+    then found (moment_of (two (year % 100) ++ (47 ∷ p.month ++ (47 ∷ p.day)))
+    (p.hour ++ (58 ∷ p.minute ++ (58 ∷ p.second))))
     else None
 
 -- the pieces of `M.D.h.m.s`
@@ -87,7 +90,14 @@ pieces_of bytes = do
   from_hour ← behind dot from_day
   from_minute ← behind dot from_hour
   second ← behind dot from_minute
-  Some (record { month = until dot bytes; day = until dot from_day; hour = until dot from_hour; minute = until dot from_minute; second = second })
+  Some (record {
+    month = until dot bytes;
+    day = until dot from_day;
+    hour = until dot from_hour;
+    minute =
+        until dot from_minute;
+    second = second;
+  })
 
 -- the moment of a date `Y.M.D.h.m.s`
 abbrev pub date_of : List ℕ → Option Moment
@@ -150,7 +160,17 @@ abbrev pub revision_by : Facts → Option (Revision × Option (List ℕ))
 revision_by f = do
   moment ← date_of f.fields.date
   login ← only (is_login f.fields.author) f.fields.author
-  Some (record { sid = f.sid; moment = moment; login = login; log = or_empty_line (lines_in f.log); text = lines_in f.text }, f.fields.next)
+  Some (
+    record {
+      sid = f.sid;
+      moment = moment;
+      login = login;
+      log = or_empty_line (lines_in f.log);
+      text =
+          lines_in f.text;
+    },
+    f.fields.next,
+  )
 
 -- the revision of a number, and the number of the next one
 abbrev pub revision_of : Option Sid → List ℕ → RcsFile → Option (Revision × Option (List ℕ))
@@ -162,7 +182,8 @@ abbrev pub with_revision : Revision → Result (List Revision) ℕ → Result (L
 with_revision r (Ok revisions) = Ok (r ∷ revisions)
 with_revision r (Err n) = Err n
 
-abbrev pub then_revisions : ℕ → Option (Revision × Option (List ℕ)) → (Sid → Option (List ℕ) → Result (List Revision) ℕ) → Result (List Revision) ℕ
+abbrev pub then_revisions : ℕ → Option (Revision × Option (List ℕ)) → (Sid → Option (List ℕ) → Result (List Revision) ℕ)
+    → Result (List Revision) ℕ
 then_revisions n None more = Err n
 then_revisions n (Some (r, next)) more = with_revision r (more r.sid next)
 

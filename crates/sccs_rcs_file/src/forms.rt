@@ -49,7 +49,12 @@ impl<'a> Model for DeltaText<'a> {
 
     ghost Value = { DeltaText };
 
-    ghost view = { λ s. record { number = s.number.now; log = s.log.now; phrases = s.phrases.items; text = s.text.now } };
+    ghost view = { λ s. record {
+      number = s.number.now;
+      log = s.log.now;
+      phrases = s.phrases.items;
+      text = s.text.now;
+    } };
 
     ghost invariant = { λ s. Unit {0} };
 }
@@ -68,7 +73,12 @@ impl<'a> Model for RcsFile<'a> {
 
     ghost Value = { RcsFile };
 
-    ghost view = { λ s. record { head = s.head.items; entries = s.entries.items; description = s.description.now; texts = s.texts.items } };
+    ghost view = { λ s. record {
+      head = s.head.items;
+      entries = s.entries.items;
+      description = s.description.now;
+      texts = s.texts.items;
+    } };
 
     ghost invariant = { λ s. Unit {0} };
 }

@@ -1,8 +1,11 @@
-ghost use Rattle.std.specs.Prelude.{◌≡◌, ◌++◌, ◌∷◌, ◌-◌, [], suc, length, true, Bool, Some, None, IfOk, MatchBool, OnOk, codes};
+ghost use Rattle.std.specs.Prelude.{◌≡◌, ◌++◌, ◌∷◌, ◌-◌, [], suc, length, true, Bool, Some, None, IfOk, MatchBool};
+ghost use Rattle.std.specs.Prelude.{OnOk, codes};
 ghost use Rattle.std.specs.Str.{bytes_eq};
 ghost use Rattle.sccs_rcs_file.specs.declared.places.Place.TheVariants.{EntryPhrases, HeadPhrases, TextPhrases, Texts};
 ghost use Rattle.sccs_rcs_file.specs.declared.faults.RcsFault.TheVariants.{BadRcs};
-ghost use Rattle.sccs_rcs_file.specs.Reading.{AnswersRead, Reads, Steps, is_part, read_on, start, description_next, entry_begun, file_of, in_phrase, opened, step, step_at, with_entry, with_head, with_text};
+ghost use Rattle.sccs_rcs_file.specs.Reading.{AnswersRead, Reads, Steps, is_part, read_on, start, description_next};
+ghost use Rattle.sccs_rcs_file.specs.Reading.{entry_begun, file_of, in_phrase, opened, step, step_at, with_entry};
+ghost use Rattle.sccs_rcs_file.specs.Reading.{with_head, with_text};
 
 use crate::faults::RcsFault;
 use crate::forms::{DeltaText, Phrase, RcsEntry, RcsFile};
@@ -62,7 +65,12 @@ fn end_entry(state: &mut State, alloc: Global) -> Result<(), Memory>
 
 // a text is ended
 fn end_text<'a>(state: &mut State<'a>, alloc: Global, text: &'a [u8]) -> Result<(), Memory>
-    ensures { OnOk result (state.new ≡ record state.old { place = Texts; file = with_text text.now state.old; phrases = [] }) }
+    ensures { OnOk result (state.new ≡ record state.old {
+      place = Texts;
+      file = with_text text.now state.old;
+      phrases =
+          [];
+    }) }
 {
     let phrases = replace(&mut state.phrases, Vec::new(alloc));
     let (number, log) = (state.number, state.log);

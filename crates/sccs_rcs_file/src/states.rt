@@ -21,7 +21,16 @@ impl<'a> Model for State<'a> {
 
     ghost Value = { State };
 
-    ghost view = { λ s. record { place = s.place; file = s.file; number = s.number.now; log = s.log.now; phrases = s.phrases.items; name = s.name.now; inside = s.inside.items } };
+    ghost view = { λ s. record {
+      place = s.place;
+      file = s.file;
+      number = s.number.now;
+      log = s.log.now;
+      phrases =
+          s.phrases.items;
+      name = s.name.now;
+      inside = s.inside.items;
+    } };
 
     ghost invariant = { λ s. Unit {0} };
 }

@@ -1,6 +1,7 @@
 ghost use Rattle.std.specs.Prelude.{◌≡◌, ◌<◌, ◌≤◌, [], ◌∷◌, None, Some, drop, length, take, IfSome, option_map};
 ghost use Rattle.std.specs.List.{list_all};
-ghost use Rattle.sccs_rcs_file.specs.Tokens.{Lexes, behind_word, from_token, is_gap, is_of_number, is_of_word, string_in, token_at, with_raw, word_in, word_token};
+ghost use Rattle.sccs_rcs_file.specs.Tokens.{Lexes, behind_word, from_token, is_gap, is_of_number, is_of_word};
+ghost use Rattle.sccs_rcs_file.specs.Tokens.{string_in, token_at, with_raw, word_in, word_token};
 
 use crate::kinds::{Token, TokenKind};
 
@@ -65,7 +66,8 @@ fn word_in(bytes: &[u8]) -> (&[u8], &[u8])
 fn raw_len(bytes: &[u8]) -> usize
     requires { 0 < length bytes.now }
     ensures ended { result ≡ 0 → string_in bytes.now ≡ Some ([], drop 1 bytes.now) }
-    ensures more { 0 < result → string_in bytes.now ≡ with_raw (take result bytes.now) (string_in (drop result bytes.now)) }
+    ensures more { 0 < result → string_in bytes.now ≡ with_raw (take result bytes.now)
+        (string_in (drop result bytes.now)) }
     ensures within { result ≤ length bytes.now }
 {
     match bytes {

@@ -1,7 +1,10 @@
 ghost use Rattle.std.specs.Prelude.{◌≡◌, Some, option_and_then, option_copied, option_map, IfOk, IfSome};
 ghost use Rattle.sccs_sid.specs.Sid.{IsSid};
 ghost use Rattle.sccs_trunks.specs.TrunkHistories.{is_below, trunk_scripts};
-ghost use Rattle.sccs_rcs_file.specs.Trunk.{ReadsRcs, ReadsTrunk, rcs_of, rcs_read, rcs_with, head_of, revision_of, revisions_at, trunk_of, at_most_one, facts_of, fields_of, inside_of, one_number, one_word, trunk_sid, unquoted, lines_in, or_empty_line, revision_by};
+ghost use Rattle.sccs_rcs_file.specs.Trunk.{ReadsRcs, ReadsTrunk, rcs_of, rcs_read, rcs_with, head_of, revision_of};
+ghost use Rattle.sccs_rcs_file.specs.Trunk.{revisions_at, trunk_of, at_most_one, facts_of, fields_of, inside_of};
+ghost use Rattle.sccs_rcs_file.specs.Trunk.{one_number, one_word, trunk_sid, unquoted, lines_in, or_empty_line};
+ghost use Rattle.sccs_rcs_file.specs.Trunk.{revision_by};
 ghost use Rattle.sccs_rcs_file.specs.Forms.{DeltaText, RcsEntry};
 ghost use Rattle.sccs_rcs_file.specs.Lookups.{one_named};
 ghost use Rattle.sccs_rcs_file.specs.FactsSeen.{facts_seen, fields_seen, found_seen};
@@ -160,7 +163,8 @@ fn word_in<'a>(phrases: &[Phrase<'a>], name: &[u8]) -> Option<&'a [u8]>
 
 // at most one number in the one phrase of a name
 fn next_in<'a>(phrases: &[Phrase<'a>], name: &[u8]) -> Option<Option<&'a [u8]>>
-    ensures { option_map (option_map (λ x. x.now)) result ≡ option_and_then at_most_one (inside_of name.now phrases.now) }
+    ensures { option_map (option_map (λ x. x.now)) result ≡ option_and_then at_most_one
+        (inside_of name.now phrases.now) }
 {
     at_most_one(inside_of(phrases, name)?)
 }
@@ -236,7 +240,8 @@ fn facts_of<'a>(
 
 // the revision that is told so, where the date is a moment and the author a login
 fn revision_by(alloc: Global, facts: &RevisionFacts) -> Result<Option<Revision>, Memory>
-    ensures value { IfOk result (λ r. option_map (λ r. (r, (facts_seen facts.now).fields.next)) r ≡ revision_by (facts_seen facts.now)) }
+    ensures value { IfOk result (λ r. option_map (λ r. (r, (facts_seen facts.now).fields.next)) r ≡ revision_by
+        (facts_seen facts.now)) }
 {
     let Some(moment) = date_of(alloc, facts.fields.date)? else {
         return Ok(None);

@@ -1,5 +1,6 @@
 -- Null deltas one after the other.
-use Rattle.std.proofs.Common.{◌≡◌, ℕ, zero, suc, ◌+◌, ◌<◌, List, [], ◌∷◌, drop, get_or, map, length, sym, ap, subst, ◌∙◌}
+use Rattle.std.proofs.Common.{◌≡◌, ℕ, zero, suc, ◌+◌, ◌<◌, List, [], ◌∷◌, drop, get_or, map, length, sym, ap, subst}
+use Rattle.std.proofs.Common.{◌∙◌}
 use Rattle.std.specs.List.{AllByRecursion}
 use Rattle.std.proofs.lemmas.List.{drop_more}
 use Rattle.sccs_sid.specs.Sid.{IsSid}
@@ -10,12 +11,17 @@ use Rattle.sccs_history.specs.declared.headers.Header.{Header}
 use Rattle.sccs_records.specs.NewDeltas.{last_of, null_delta, with_delta, with_deltas}
 use Rattle.sccs_records.specs.declared.new_deltas.NewDelta.{NewDelta}
 
-left_nulls : (stamp : Stamp) (sids : List Sid) (i : ℕ) (e : Sid) → i < length sids → map (null_delta stamp) (drop i sids) ≡ null_delta stamp (get_or sids i e) ∷ map (null_delta stamp) (drop (i + 1) sids)
+left_nulls : (stamp : Stamp) (sids : List Sid) (i : ℕ) (e : Sid) → i < length sids
+    → map (null_delta stamp) (drop i sids) ≡ null_delta stamp (get_or sids i e) ∷ map (null_delta stamp)
+    (drop (i + 1) sids)
 left_nulls stamp sids i e low = ap (map (null_delta stamp)) (drop_more sids i e low)
 
 -- one more is put
-pub null_put : (stamp : Stamp) (sids : List Sid) (i : ℕ) (e : Sid) (header header2 : Header) (on on2 : ℕ) (d : NewDelta) → i < length sids → d ≡ null_delta stamp (get_or sids i e) → header2 ≡ with_delta header on d → on2 ≡ suc (newest header.records)
-    → with_deltas header2 on2 (map (null_delta stamp) (drop (i + 1) sids)) ≡ with_deltas header on (map (null_delta stamp) (drop i sids))
+pub null_put : (stamp : Stamp) (sids : List Sid) (i : ℕ) (e : Sid) (header header2 : Header) (on on2 : ℕ) (d : NewDelta)
+    → i < length sids → d ≡ null_delta stamp (get_or sids i e) → header2 ≡ with_delta header on d
+    → on2 ≡ suc (newest header.records)
+    → with_deltas header2 on2 (map (null_delta stamp) (drop (i + 1) sids)) ≡ with_deltas header on
+    (map (null_delta stamp) (drop i sids))
 null_put stamp sids i e header header2 on on2 d low is so next =
     let rest : List NewDelta = map (null_delta stamp) (drop (i + 1) sids) in
     ap (λ h. with_deltas h on2 rest) (so ∙ ap (with_delta header on) is)
@@ -23,8 +29,10 @@ null_put stamp sids i e header header2 on on2 d low is so next =
     ∙ sym (ap (with_deltas header on) (left_nulls stamp sids i e low)))
 
 -- the next one is made on it
-pub null_last : (stamp : Stamp) (sids : List Sid) (i : ℕ) (e : Sid) (header header2 : Header) (on on2 : ℕ) (d : NewDelta) → i < length sids → header2 ≡ with_delta header on d → on2 ≡ suc (newest header.records)
-    → last_of on2 (newest header2.records) (map (null_delta stamp) (drop (i + 1) sids)) ≡ last_of on (newest header.records) (map (null_delta stamp) (drop i sids))
+pub null_last : (stamp : Stamp) (sids : List Sid) (i : ℕ) (e : Sid) (header header2 : Header) (on on2 : ℕ)
+    (d : NewDelta) → i < length sids → header2 ≡ with_delta header on d → on2 ≡ suc (newest header.records)
+    → last_of on2 (newest header2.records) (map (null_delta stamp) (drop (i + 1) sids)) ≡ last_of on
+    (newest header.records) (map (null_delta stamp) (drop i sids))
 null_last stamp sids i e header header2 on on2 d low so next =
     let rest : List NewDelta = map (null_delta stamp) (drop (i + 1) sids) in
     ap (λ (h : Header). last_of on2 (newest h.records) rest) so
@@ -33,7 +41,8 @@ null_last stamp sids i e header header2 on on2 d low so next =
 
 -- each of the SIDs is one
 pub sid_at : (sids : List Sid) (i : ℕ) (e : Sid) → i < length sids → AllByRecursion IsSid sids → IsSid (get_or sids i e)
-sid_at sids i e low all = first (get_or sids i e) (drop (i + 1) sids) (subst (AllByRecursion IsSid) (drop_more sids i e low) (behind i sids all))
+sid_at sids i e low all = first (get_or sids i e) (drop (i + 1) sids) (subst (AllByRecursion IsSid)
+    (drop_more sids i e low) (behind i sids all))
   where
     behind : (n : ℕ) (xs : List Sid) → AllByRecursion IsSid xs → AllByRecursion IsSid (drop n xs)
     behind zero xs all = all

@@ -1,5 +1,6 @@
 -- A table with one delta more keeps the rules.
-use Rattle.std.proofs.Common.{◌≡◌, ℕ, suc, ◌<◌, ◌≤◌, ◌⊎◌, ◌==◌, Bool, true, false, not, ◌&&◌, ◌||◌, List, [], ◌∷◌, refl, sym, ap, ◌∙◌, ⊎_elim, arith}
+use Rattle.std.proofs.Common.{◌≡◌, ℕ, suc, ◌<◌, ◌≤◌, ◌⊎◌, ◌==◌, Bool, true, false, not, ◌&&◌, ◌||◌, List, [], ◌∷◌, refl}
+use Rattle.std.proofs.Common.{sym, ap, ◌∙◌, ⊎_elim, arith}
 use Rattle.std.specs.List.{AllByRecursion}
 use Rattle.std.proofs.lemmas.Bool.{eqb-true, false≢true, or_cases, or_right}
 use Rattle.std.proofs.Math.Nat.{min-le_right}
@@ -22,24 +23,30 @@ below_bound (n ∷ ns) b m falls h =
     (or_cases (n == m) (has ns m) h)
 
 -- the serials of a table are no greater than the newest
-pub falls_newest : (records : List Record) (b : ℕ) → Falls b (serials_of records) → Falls (suc (newest records)) (serials_of records)
+pub falls_newest : (records : List Record) (b : ℕ) → Falls b (serials_of records) → Falls (suc (newest records))
+    (serials_of records)
 falls_newest [] b falls = tt
 falls_newest (r ∷ records) b falls = (omega arith, falls.1)
 
-pub at_most_newest : (records : List Record) (b m : ℕ) → Falls b (serials_of records) → has (serials_of records) m ≡ true → m ≤ newest records
-at_most_newest records b m falls h = let low : m < suc (newest records) = below_bound (serials_of records) (suc (newest records)) m (falls_newest records b falls) h in omega (arith, low)
+pub at_most_newest : (records : List Record) (b m : ℕ) → Falls b (serials_of records) → has (serials_of records) m
+    ≡ true → m ≤ newest records
+at_most_newest records b m falls h = let low : m < suc (newest records) = below_bound (serials_of records)
+    (suc (newest records)) m (falls_newest records b falls) h in omega (arith, low)
 
-pub live_is_there : (records : List Record) (n : ℕ) → has (live_serials records) n ≡ true → has (serials_of records) n ≡ true
+pub live_is_there : (records : List Record) (n : ℕ) → has (live_serials records) n ≡ true → has (serials_of records) n
+    ≡ true
 live_is_there [] n h = h
 live_is_there (r ∷ records) n h =
-    ⊎_elim (λ (here : (not r.removed ≡ true) × (r.serial ≡ n)). ap (λ m. (r.serial == m) || has (serials_of records) n) (sym here.1) ∙ is_itself r.serial (has (serials_of records) n))
+    ⊎_elim (λ (here : (not r.removed ≡ true) × (r.serial ≡ n)). ap (λ m. (r.serial == m) || has (serials_of records) n)
+    (sym here.1) ∙ is_itself r.serial (has (serials_of records) n))
     (λ rest. or_right (r.serial == n) (has (serials_of records) n) (live_is_there records n rest))
     (front_has (not r.removed) r.serial (live_serials records) n h)
   where
     is_itself : (m : ℕ) (rest : Bool) → ((m == m) || rest) ≡ true
     is_itself m rest = grind arith
 
-pub some_serial : (all records : List Record) (n : ℕ) → AllByRecursion (IsRecord all) records → has (serials_of records) n ≡ true → 0 < n
+pub some_serial : (all records : List Record) (n : ℕ) → AllByRecursion (IsRecord all) records
+    → has (serials_of records) n ≡ true → 0 < n
 some_serial all [] n each h = absurd (false≢true h)
 some_serial all (r ∷ records) n each h =
     ⊎_elim (λ same. let is : r.serial ≡ n = eqb-true r.serial n same in omega (arith, is, each.0.serial))
@@ -47,7 +54,9 @@ some_serial all (r ∷ records) n each h =
     (or_cases (r.serial == n) (has (serials_of records) n) h)
 
 -- a list of live deltas of the table names smaller serials than the next
-names_smaller : (records : List Record) (ns : List ℕ) → Falls 65536 (serials_of records) → AllByRecursion (IsRecord records) records → AllByRecursion (λ n. has (live_serials records) n ≡ true) ns → NamesSmaller (suc (newest records)) ns
+names_smaller : (records : List Record) (ns : List ℕ) → Falls 65536 (serials_of records)
+    → AllByRecursion (IsRecord records) records → AllByRecursion (λ n. has (live_serials records) n ≡ true) ns
+    → NamesSmaller (suc (newest records)) ns
 names_smaller records [] falls each live = tt
 names_smaller records (n ∷ ns) falls each live =
     let there : has (serials_of records) n ≡ true = live_is_there records n live.0 in
@@ -64,7 +73,8 @@ one_more false false c h = h
 record_wider : (r a : Record) (records : List Record) → IsRecord records a → IsRecord (r ∷ records) a
 record_wider r a records is = record {
   serial = is.serial;
-  predecessor = one_more (0 == a.predecessor) (r.serial == a.predecessor) (has (serials_of records) a.predecessor) is.predecessor;
+  predecessor = one_more (0 == a.predecessor) (r.serial == a.predecessor) (has (serials_of records) a.predecessor)
+      is.predecessor;
   older = is.older;
   include = is.include;
   exclude = is.exclude;
@@ -75,17 +85,20 @@ record_wider r a records is = record {
   unchanged = is.unchanged;
 }
 
-records_wider : (r : Record) (all records : List Record) → AllByRecursion (IsRecord all) records → AllByRecursion (IsRecord (r ∷ all)) records
+records_wider : (r : Record) (all records : List Record) → AllByRecursion (IsRecord all) records
+    → AllByRecursion (IsRecord (r ∷ all)) records
 records_wider r all [] each = tt
 records_wider r all (a ∷ records) each = (record_wider r a all each.0, records_wider r all records each.1)
 
-on_older : (records : List Record) (on : ℕ) → Falls 65536 (serials_of records) → has (0 ∷ serials_of records) on ≡ true → on < suc (newest records)
+on_older : (records : List Record) (on : ℕ) → Falls 65536 (serials_of records) → has (0 ∷ serials_of records) on ≡ true
+    → on < suc (newest records)
 on_older records on falls h =
     ⊎_elim (λ none. let is : 0 ≡ on = eqb-true 0 on none in omega (arith, is))
     (λ there. let low : on ≤ newest records = at_most_newest records 65536 on falls there in omega (arith, low))
     (or_cases (0 == on) (has (serials_of records) on) h)
 
-pub table_kept : (records : List Record) (on : ℕ) (d : NewDelta) → IsTable records → FitsTable records on d → IsTable (with_record records on d)
+pub table_kept : (records : List Record) (on : ℕ) (d : NewDelta) → IsTable records → FitsTable records on d
+    → IsTable (with_record records on d)
 table_kept records on d table fits =
     let new : Record = record_of (suc (newest records)) on d in
     record {
@@ -109,7 +122,8 @@ table_kept records on d table fits =
       sids = ap (λ t. not t && has_own_sids records) fits.sid ∙ table.sids;
     }
 
-pub header_kept : (header : Header) (on : ℕ) (d : NewDelta) → IsHeader header → FitsTable header.records on d → IsHeader (with_delta header on d)
+pub header_kept : (header : Header) (on : ℕ) (d : NewDelta) → IsHeader header → FitsTable header.records on d
+    → IsHeader (with_delta header on d)
 header_kept header on d is fits = record {
   rules = record {
     table = table_kept header.records on d is.rules.table fits;
@@ -121,9 +135,13 @@ header_kept header on d is fits = record {
   plain = is.plain;
 }
 
-pub spelled_kept : (header : Header) (on : ℕ) (d : NewDelta) → IsSpelled header → HasSpellings d → IsSpelled (with_delta header on d)
+pub spelled_kept : (header : Header) (on : ℕ) (d : NewDelta) → IsSpelled header → HasSpellings d
+    → IsSpelled (with_delta header on d)
 spelled_kept header on d is has = record {
-  records = (record { sid = has.sid; moment = has.moment; login = has.login; mrs = has.mrs; comments = has.comments }, is.records);
+  records = (
+    record { sid = has.sid; moment = has.moment; login = has.login; mrs = has.mrs; comments = has.comments },
+    is.records,
+  );
   users = is.users;
   flags = is.flags;
   description = is.description;

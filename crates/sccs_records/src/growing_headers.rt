@@ -22,7 +22,12 @@ impl Model for GrowingHeader {
 
     ghost Value = { Header };
 
-    ghost view = { λ g. record { records = reverse g.header.records; users = g.header.users; flags = g.header.flags; description = g.header.description } };
+    ghost view = { λ g. record {
+      records = reverse g.header.records;
+      users = g.header.users;
+      flags = g.header.flags;
+      description = g.header.description;
+    } };
 }
 
 impl GrowingHeader {

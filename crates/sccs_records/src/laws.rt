@@ -22,13 +22,19 @@ pub fn new_deltas_keep_rules()
 /// it was made, with the lists of the new one as those of the call. Beneath a new delta without lists the
 /// lists of a call go on to the delta on which it was made.
 pub fn sets_with_new_deltas()
-    ensures others { (records : List Record) (on m : ℕ) (d : NewDelta) → Falls 65536 (serials_of records) → m ≤ newest records
+    ensures others { (records : List Record) (on m : ℕ) (d : NewDelta) → Falls 65536 (serials_of records)
+        → m ≤ newest records
         → applied (version_of m) (with_record records on d) ≡ applied (version_of m) records }
     ensures own { (records : List Record) (on : ℕ) (d : NewDelta) → Falls 65536 (serials_of records)
         → applied (version_of (suc (newest records))) (with_record records on d)
-        ≡ suc (newest records) ∷ applied (record { target = on; include = d.include; exclude = d.exclude; cutoff = None }) records }
-    ensures beneath { (records : List Record) (on : ℕ) (d : NewDelta) (include exclude : List ℕ) → Falls 65536 (serials_of records)
-        → d.include ≡ [] → d.exclude ≡ [] → has include (suc (newest records)) ≡ false → has exclude (suc (newest records)) ≡ false
-        → applied (record { target = suc (newest records); include = include; exclude = exclude; cutoff = None }) (with_record records on d)
-        ≡ suc (newest records) ∷ applied (record { target = on; include = include; exclude = exclude; cutoff = None }) records }
+        ≡ suc (newest records) ∷ applied
+        (record { target = on; include = d.include; exclude = d.exclude; cutoff = None }) records }
+    ensures beneath { (records : List Record) (on : ℕ) (d : NewDelta) (include exclude : List ℕ)
+        → Falls 65536 (serials_of records)
+        → d.include ≡ [] → d.exclude ≡ [] → has include (suc (newest records)) ≡ false
+        → has exclude (suc (newest records)) ≡ false
+        → applied (record { target = suc (newest records); include = include; exclude = exclude; cutoff = None })
+        (with_record records on d)
+        ≡ suc (newest records) ∷ applied (record { target = on; include = include; exclude = exclude; cutoff = None })
+        records }
 {}

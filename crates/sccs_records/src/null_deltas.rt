@@ -67,10 +67,13 @@ pub fn add_null_deltas(
     sids: &[Sid],
 ) -> Result<BasedHeader, Memory>
     requires room { newest based.header.records + length sids.now ≤ 65535 }
-    ensures value { IfOk result (λ b. b.header ≡ with_deltas based.header based.on (map (null_delta stamp.now) sids.now)) }
-    ensures last { IfOk result (λ b. b.on ≡ last_of based.on (newest based.header.records) (map (null_delta stamp.now) sids.now)) }
+    ensures value { IfOk result (λ b. b.header ≡ with_deltas based.header based.on
+        (map (null_delta stamp.now) sids.now)) }
+    ensures last { IfOk result (λ b. b.on ≡ last_of based.on (newest based.header.records)
+        (map (null_delta stamp.now) sids.now)) }
     ensures newest { IfOk result (λ b. newest b.header.records ≡ newest based.header.records + length sids.now) }
-    ensures spelled { IsSpelled based.header → IsMoment stamp.now.moment → AllByRecursion IsSid sids.now → IfOk result (λ b. IsSpelled b.header) }
+    ensures spelled { IsSpelled based.header → IsMoment stamp.now.moment → AllByRecursion IsSid sids.now
+        → IfOk result (λ b. IsSpelled b.header) }
 {
     let BasedHeader { header, on } = based;
     let mut header = GrowingHeader::new(header);

@@ -9,5 +9,7 @@ use Rattle.sccs_pfile.specs.declared.entries.Edit.{Edit}
 
 -- ---- what is left of them
 
-pub left_valid : (records : List Record) (edits left : List Edit) → left ≡ without_done records edits → All IsEdit edits → All IsEdit left
-left_valid records edits left is valid = subst (λ l. All IsEdit l) (sym is) (All-filter (λ e. not (is_done records e)) IsEdit edits valid)
+pub left_valid : (records : List Record) (edits left : List Edit) → left ≡ without_done records edits → All IsEdit edits
+    → All IsEdit left
+left_valid records edits left is valid = subst (λ l. All IsEdit l) (sym is)
+    (All-filter (λ e. not (is_done records e)) IsEdit edits valid)

@@ -17,7 +17,8 @@ with_line (Some v) line bad = (line, bad)
 
 pub finish_ends : (r : Result Bool StepFault) (a b : Told) → FinishesGroup r a b → FinishEnds (status_of r) a b
 finish_ends (Ok there) a b ended = (refl, inl ended.0)
-finish_ends (Err (step.Refused refusal)) a b ended = (refl, inr (record { lost = ended.2; bad = with_line _ ended.0 ended.3 }))
+finish_ends (Err (step.Refused refusal)) a b ended =
+    (refl, inr (record { lost = ended.2; bad = with_line _ ended.0 ended.3 }))
 finish_ends (Err step.Memory) a b ended = ended
 finish_ends (Err step.DiskFault) a b ended = ended
 finish_ends (Err step.ReadFault) a b ended = absurd ended
@@ -31,5 +32,6 @@ failed_is (Err step.ReadFault) is = absurd (cc)
 failed_is (Err step.WriteFault) is = absurd (cc)
 failed_is (Err step.DiskFault) is = refl
 
-pub finish_causes : (r : Result Bool StepFault) (d d2 : ℕ) → DiskCauses (r ≡ Err step.DiskFault) d d2 → DiskCauses (status_of r ≡ Err ends.DiskFault) d d2
+pub finish_causes : (r : Result Bool StepFault) (d d2 : ℕ) → DiskCauses (r ≡ Err step.DiskFault) d d2
+    → DiskCauses (status_of r ≡ Err ends.DiskFault) d d2
 finish_causes r d d2 causes = record { later = causes.later; cause = λ is. causes.cause (failed_is r is) }

@@ -10,7 +10,8 @@ use Rattle.sccs_steps.specs.declared.faults.Fault.TheVariants as ends
 use Rattle.sccs_group.specs.Finishing.{CanFinish}
 use Rattle.sccs_group.specs.Recovering.{IsWellFormed}
 
--- Recovery may begin: what it needs is firm, names of an intent are locked and recovery leaves the pairs that it makes of them, and
+-- Recovery may begin: what it needs is firm, names of an intent are locked and recovery leaves the pairs that it makes
+-- of them, and
 -- an intent that is there has its form.
 pub record MayRecover (m : Model) : Type 0 where
   pub finish : CanFinish m
@@ -18,19 +19,23 @@ pub record MayRecover (m : Model) : Type 0 where
 
 -- a stop leaves a folder that recovers as one that a stop could leave at the start
 abbrev pub RecoversFrom : Told → Told → Type 0
-RecoversFrom old new = (m : Model) (past : List Model) → old ≡ Tells m past → MayRecover m → Went (λ j w. IsFrom m w) m past 0 new
+RecoversFrom old new = (m : Model) (past : List Model) → old ≡ Tells m past → MayRecover m
+    → Went (λ j w. IsFrom m w) m past 0 new
 
 -- a group may be finished again
 abbrev pub LeavesFinishable : Told → Told → Type 0
-LeavesFinishable old new = (m : Model) (past : List Model) → old ≡ Tells m past → MayRecover m → (m2 : Model) (past2 : List Model) → new ≡ Tells m2 past2 → CanFinish m2
+LeavesFinishable old new = (m : Model) (past : List Model) → old ≡ Tells m past → MayRecover m
+    → (m2 : Model) (past2 : List Model) → new ≡ Tells m2 past2 → CanFinish m2
 
 -- the disk is calm
 abbrev pub MakesCalm : Told → Told → Type 0
-MakesCalm old new = (m : Model) (past : List Model) → old ≡ Tells m past → MayRecover m → (m2 : Model) (past2 : List Model) → new ≡ Tells m2 past2 → IsCalm m2
+MakesCalm old new = (m : Model) (past : List Model) → old ≡ Tells m past → MayRecover m
+    → (m2 : Model) (past2 : List Model) → new ≡ Tells m2 past2 → IsCalm m2
 
 -- a calm disk stays calm
 abbrev pub StaysCalm : Told → Told → Type 0
-StaysCalm old new = (m : Model) (past : List Model) → old ≡ Tells m past → MayRecover m → IsCalm m → (m2 : Model) (past2 : List Model) → new ≡ Tells m2 past2 → IsCalm m2
+StaysCalm old new = (m : Model) (past : List Model) → old ≡ Tells m past → MayRecover m → IsCalm m
+    → (m2 : Model) (past2 : List Model) → new ≡ Tells m2 past2 → IsCalm m2
 
 -- What a call that recovers leaves.
 pub record RecoversAll (r : Result ℕ Fault) (old new : Told) : Type 0 where

@@ -1,5 +1,7 @@
--- The checks that recovery makes (own), and their order: no intent is there; and where a z-file is, the files of the name can be read.
-use Rattle.std.specs.Prelude.{◌≡◌, ◌≢◌, ◌∷◌, ℕ, Bool, true, List, [], length, nat_lt, Option, None, Some, is_some, option_map, Result, Ok, Err, if◌then◌else◌}
+-- The checks that recovery makes (own), and their order: no intent is there; and where a z-file is, the files of the
+-- name can be read.
+use Rattle.std.specs.Prelude.{◌≡◌, ◌≢◌, ◌∷◌, ℕ, Bool, true, List, [], length, nat_lt, Option, None, Some, is_some}
+use Rattle.std.specs.Prelude.{option_map, Result, Ok, Err, if◌then◌else◌}
 use Rattle.sccs_base.specs.Name.{p_file, z_file}
 use Rattle.sccs_disk.specs.Files.{Content, View}
 use Rattle.sccs_sid.specs.Reading.{◌>>=◌}

@@ -25,7 +25,8 @@ Says (Err WriteFault) text out out2 = GivesSome out out2 text
 Says (Err fault) text out out2 = ⊥
 
 -- an intent that is there refuses the step
-pub refused_step : (freed : List ℕ → Bool) (n : List ℕ) (intent : Option Content) (f : Files) (d : StepEffect) → IsSome intent → recover_outcome freed n (intent ∷ []) f ≡ Ok d → d.new ≡ None
+pub refused_step : (freed : List ℕ → Bool) (n : List ℕ) (intent : Option Content) (f : Files) (d : StepEffect)
+    → IsSome intent → recover_outcome freed n (intent ∷ []) f ≡ Ok d → d.new ≡ None
 unfolding recover_outcome
 refused_step freed n None f d there is = absurd cc
 refused_step freed n (Some c) f d there is = absurd cc

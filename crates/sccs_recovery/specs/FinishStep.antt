@@ -1,4 +1,5 @@
--- The step that finishes a group which was stopped, as the first one of recover: for each name of the intent that is there the
+-- The step that finishes a group which was stopped, as the first one of recover: for each name of the intent that is
+-- there the
 -- files of recovery (own), and no intent and no plan.
 use Rattle.std.specs.Prelude.{ℕ, Bool, true, false, List, [], ◌∷◌, map, Option, None, Some, Err, if◌then◌else◌}
 use Rattle.std.specs.Result.{is_ok}
@@ -30,12 +31,18 @@ freed_in v = names_of (entries_in (v intent_file))
 
 -- the files of a name that an intent names, after its recovery
 abbrev pub finished_files : IntentEntry → View → Files
-finished_files e v = record (look v e.name) { s = newer (v (x_file e.name)) (v e.name); p = fated e.fate (v (q_file e.name)) (v (p_file e.name)); z = None }
+finished_files e v =
+    record (look v e.name) {
+      s = newer (v (x_file e.name)) (v e.name);
+      p = fated e.fate (v (q_file e.name)) (v (p_file e.name));
+      z = None;
+    }
 
 -- one name after the other
 abbrev pub name_moves : View → List IntentEntry → List Move
 name_moves v [] = []
-name_moves v (e ∷ es) = record { name = e.name; new = Some (finished_files e v) } ∷ name_moves (moved v e.name (Some (finished_files e v))) es
+name_moves v (e ∷ es) = record { name = e.name; new = Some (finished_files e v) } ∷ name_moves
+    (moved v e.name (Some (finished_files e v))) es
 
 -- the intent is gone, where it has its form
 abbrev pub intent_taken : View → Option Files
@@ -45,12 +52,14 @@ intent_taken v = if is_formed (v intent_file) then Some (record (look v intent_f
 abbrev pub quiet : Option Files → StepEffect
 quiet new = record { new = new; text = []; out = []; err = []; status = 0 }
 
--- The intent goes first; the plan, which is a working file, is one of the further names, so that it may go where the disk fails.
+-- The intent goes first; the plan, which is a working file, is one of the further names, so that it may go where the
+-- disk fails.
 abbrev pub finishing_step : View → NamedStep
 finishing_step v = record {
   name = intent_file;
   effect = quiet (intent_taken v);
-  more = record { name = plan_file; new = None } ∷ name_moves (moved v intent_file (intent_taken v)) (entries_in (v intent_file));
+  more = record { name = plan_file; new = None } ∷ name_moves (moved v intent_file (intent_taken v))
+      (entries_in (v intent_file));
 }
 
 -- what is asked of names is asked of those of the intent; they aren't locked anew

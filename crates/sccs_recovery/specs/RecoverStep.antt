@@ -1,5 +1,6 @@
 -- What the command recover does with the files of a name (own).
-use Rattle.std.specs.Prelude.{ℕ, Bool, false, true, ◌||◌, List, [], ◌∷◌, ◌++◌, codes, Option, None, Some, is_some, Result, Ok, if◌then◌else◌}
+use Rattle.std.specs.Prelude.{ℕ, Bool, false, true, ◌||◌, List, [], ◌∷◌, ◌++◌, codes, Option, None, Some, is_some}
+use Rattle.std.specs.Prelude.{Result, Ok, if◌then◌else◌}
 use Rattle.std.specs.List.{list_any}
 use Rattle.std.specs.Str.{bytes_eq}
 use Rattle.sccs_base.specs.Name.{is_sfile_name}
@@ -26,7 +27,8 @@ found_text n locked = n ++ (if locked then codes ": recovered\n" else codes ": c
 abbrev pub freed_by : List (List ℕ) → List ℕ → Bool
 freed_by names n = list_any (bytes_eq n) names
 
--- where the z-file is there, the name is unlocked; else its files stay. A name that was freed just before counts as locked.
+-- where the z-file is there, the name is unlocked; else its files stay. A name that was freed just before counts as
+-- locked.
 abbrev pub recovers : (List ℕ → Bool) → List ℕ → Files → StepEffect
 recovers freed n f = record {
   new = if is_some f.z then Some (recovered_files f) else None;
@@ -58,4 +60,15 @@ recover_outcome freed n named f = do
 
 -- by the names that were freed just before
 abbrev pub recover_action : (List ℕ → Bool) → Action
-recover_action freed = record { fits = is_sfile_name; step = λ n input named files. recover_outcome freed n named files; named = λ n. intent_file ∷ []; takes = false; reads = false; locks = false; silent = false; rule = Greatest; could = quiet_checks recover_checks }
+recover_action freed = record {
+  fits = is_sfile_name;
+  step = λ n input named files. recover_outcome freed n named files;
+  named = λ n. intent_file ∷ [];
+  takes = false;
+  reads = false;
+  locks = false;
+  silent = false;
+  rule = Greatest;
+  could =
+      quiet_checks recover_checks;
+}

@@ -6,7 +6,8 @@ ghost use Rattle.sccs_base.specs.NameSets.{HasNames};
 ghost use Rattle.sccs_step_lists.specs.Following.{RunsStepList};
 ghost use Rattle.sccs_steps.specs.Settings.{SameLoans, setting};
 ghost use Rattle.sccs_steps.specs.declared.faults.Fault.TheVariants as ends;
-ghost use Rattle.sccs_recovery.specs.FinishingEnds.{BegunFinishing, FinishEnds, FinishOthers, WholeFinishing, status_of};
+ghost use Rattle.sccs_recovery.specs.FinishingEnds.{BegunFinishing, FinishEnds, FinishOthers, WholeFinishing};
+ghost use Rattle.sccs_recovery.specs.FinishingEnds.{status_of};
 ghost use Rattle.sccs_recovery.specs.FinishStep.{finishing_step_list, freed_in};
 
 use crate::freed_names::freed_names;
@@ -67,11 +68,16 @@ pub fn finish<I: Source, O: Sink, E: Sink, D: Disk>(
     freed: &mut NameSet,
 ) -> Result<u8, Fault>
     ensures loans { SameLoans streams.old streams.new }
-    ensures left { (setting I.Source O.Sink E.Sink D.Disk streams.new).left ≡ (setting I.Source O.Sink E.Sink D.Disk streams.old).left }
-    ensures heard { (setting I.Source O.Sink E.Sink D.Disk streams.new).faults.input ≡ (setting I.Source O.Sink E.Sink D.Disk streams.old).faults.input }
-    ensures ends { FinishEnds result (setting I.Source O.Sink E.Sink D.Disk streams.old).stage.told (setting I.Source O.Sink E.Sink D.Disk streams.new).stage.told }
-    ensures freed { OnOk result (IfSome (seen (setting I.Source O.Sink E.Sink D.Disk streams.old).stage.told) (λ (v : View). HasNames freed.new (freed_in v))) }
-    ensures run { RunsStepList finishing_step_list (λ (i : List ℕ). Unit {0}) WholeFinishing BegunFinishing result (setting I.Source O.Sink E.Sink D.Disk streams.old) (setting I.Source O.Sink E.Sink D.Disk streams.new) }
+    ensures left { (setting I.Source O.Sink E.Sink D.Disk streams.new).left
+        ≡ (setting I.Source O.Sink E.Sink D.Disk streams.old).left }
+    ensures heard { (setting I.Source O.Sink E.Sink D.Disk streams.new).faults.input
+        ≡ (setting I.Source O.Sink E.Sink D.Disk streams.old).faults.input }
+    ensures ends { FinishEnds result (setting I.Source O.Sink E.Sink D.Disk streams.old).stage.told
+        (setting I.Source O.Sink E.Sink D.Disk streams.new).stage.told }
+    ensures freed { OnOk result (IfSome (seen (setting I.Source O.Sink E.Sink D.Disk streams.old).stage.told)
+        (λ (v : View). HasNames freed.new (freed_in v))) }
+    ensures run { RunsStepList finishing_step_list (λ (i : List ℕ). Unit {0}) WholeFinishing BegunFinishing result
+        (setting I.Source O.Sink E.Sink D.Disk streams.old) (setting I.Source O.Sink E.Sink D.Disk streams.new) }
 {
     finish_names(alloc, streams.disk, freed)
 }

@@ -21,10 +21,12 @@ pub fn finishing_keeps_what_recovers()
     ensures safe { (v : View) → KeepsSafe v (all_moved v (moves_of (finishing_step v))) }
 {}
 
-/// A call that finishes a group, and then one that recovers names, may be stopped at any moment and begun again on whatever is
+/// A call that finishes a group, and then one that recovers names, may be stopped at any moment and begun again on
+/// whatever is
 /// left, from any disk on which the group may be finished; so may one in which finishing failed.
 pub fn any_disk_is_recovered()
-    ensures goes_on { (x : Action) (steps : Steps) (given : List ℕ → Bool) (status : ℕ) (r : Result ℕ Fault) (a b c : Told)
+    ensures goes_on { (x : Action) (steps : Steps) (given : List ℕ → Bool) (status : ℕ) (r : Result ℕ Fault)
+        (a b c : Told)
         → FinishEnds (Ok status) a b → RecoversSteps x steps (Passes given) r b c → RecoversAll r a c }
     ensures failed { (fault : Fault) (a b : Told) → FinishEnds (Err fault) a b → RecoversAll (Err fault) a b }
 {}

@@ -33,7 +33,8 @@ fn intent_fault(alloc: Global, bytes: &[u8]) -> StepFault
 
 // no intent is there
 fn check_intent<D: Disk>(alloc: Global, disk: &mut D) -> Result<(), StepFault>
-    ensures checks { IfSome (seen (D.told disk.old)) (λ (v : View). PassesChecks (none_pending (v intent_file)) result) }
+    ensures checks { IfSome (seen (D.told disk.old)) (λ (v : View). PassesChecks (none_pending (v intent_file))
+        result) }
     ensures same { D.told disk.new ≡ D.told disk.old }
     ensures causes { DiskCauses (IsErrOf result StepFault.DiskFault) (D.faults disk.old) (D.faults disk.new) }
     ensures within { IsWithin result }
@@ -54,10 +55,13 @@ pub fn recover_free<D: Disk>(
     name: &Name,
 ) -> Result<Recovered, StepFault>
     requires { IsSFileName name.now }
-    ensures clean { IfOk result (λ answer. IfSome (seen (D.told disk.old)) (λ (v : View). (answer ≡ Recovered.Clean) ↔ (v (z_file name.now) ≡ None))) }
+    ensures clean { IfOk result (λ answer. IfSome (seen (D.told disk.old)) (λ (v : View). (answer ≡ Recovered.Clean)
+        ↔ (v (z_file name.now) ≡ None))) }
     ensures checks { IfSome (seen (D.told disk.old)) (λ (v : View). PassesChecks (free_checked name.now v) result) }
-    ensures pending { IfSome (seen (D.told disk.old)) (λ (v : View). IsSome (v intent_file) → D.told disk.new ≡ D.told disk.old) }
-    ensures ends { RecoversName name.now (D.told disk.old) (D.told disk.new) (D.faults disk.old) (D.faults disk.new) result }
+    ensures pending { IfSome (seen (D.told disk.old)) (λ (v : View). IsSome (v intent_file)
+        → D.told disk.new ≡ D.told disk.old) }
+    ensures ends { RecoversName name.now (D.told disk.old) (D.told disk.new) (D.faults disk.old) (D.faults disk.new)
+        result }
 {
     match check_intent(alloc, disk) {
         Ok(()) => recover(alloc, disk, name),

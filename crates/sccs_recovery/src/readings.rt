@@ -37,7 +37,8 @@ fn read_bytes<D: Disk>(alloc: Global, disk: &mut D, name: &Name) -> Result<Optio
 // the bytes of a p-file, where it is there
 fn read_p<D: Disk>(alloc: Global, disk: &mut D, name: &Name) -> Result<Option<Bytes>, StepFault>
     requires { IsSFileName name.now }
-    ensures told { IfSome (seen (D.told disk.old)) (λ (v : View). ReadsOrRefuses (bytes_read (v (p_file name.now))) result) }
+    ensures told { IfSome (seen (D.told disk.old)) (λ (v : View). ReadsOrRefuses (bytes_read (v (p_file name.now)))
+        result) }
     ensures same { D.told disk.new ≡ D.told disk.old }
     ensures causes { DiskCauses (IsErrOf result StepFault.DiskFault) (D.faults disk.old) (D.faults disk.new) }
     ensures within { IsWithin result }
@@ -47,7 +48,8 @@ fn read_p<D: Disk>(alloc: Global, disk: &mut D, name: &Name) -> Result<Option<By
 
 // the front of an s-file that is there
 fn read_there<D: Disk>(alloc: Global, disk: &mut D, name: &Name) -> Result<Option<Front>, StepFault>
-    ensures told { IfSome (seen (D.told disk.old)) (λ (v : View). IsSome (v name.now) → ReadsTable (table_read (v name.now)) result) }
+    ensures told { IfSome (seen (D.told disk.old)) (λ (v : View). IsSome (v name.now)
+        → ReadsTable (table_read (v name.now)) result) }
     ensures same { D.told disk.new ≡ D.told disk.old }
     ensures causes { DiskCauses (IsErrOf result StepFault.DiskFault) (D.faults disk.old) (D.faults disk.new) }
     ensures within { IsWithin result }

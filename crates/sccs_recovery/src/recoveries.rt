@@ -1,4 +1,5 @@
-ghost use Rattle.std.specs.Prelude.{◌≡◌, ◌≢◌, ◌↔◌, ◌≤◌, false, Err, None, IfOk, IfSome, IsErrOf, OnErr, OnOk, option_map, IsErr};
+ghost use Rattle.std.specs.Prelude.{◌≡◌, ◌≢◌, ◌↔◌, ◌≤◌, false, Err, None, IfOk, IfSome, IsErrOf, OnErr, OnOk};
+ghost use Rattle.std.specs.Prelude.{option_map, IsErr};
 ghost use Rattle.sccs_base.specs.Name.{IsSFileName, p_file, q_file, y_file, z_file};
 ghost use Rattle.sccs_base.specs.Stream.{Rose};
 ghost use Rattle.sccs_disk.specs.Calls.{IsThere};
@@ -49,7 +50,8 @@ fn prepare_left<D: Disk>(
     ensures view { OnOk result (PreparesLeft name.now left.now (seen (D.told disk.old)) (seen (D.told disk.new))) }
     ensures moves { Moves (is_working name.now) (λ v. v) (seen (D.told disk.old)) (seen (D.told disk.new)) }
     ensures touches { TouchesOnly (is_working name.now) (D.told disk.old) (D.told disk.new) }
-    ensures firm { IfOk result (λ new. OnReplace new (Leaves (IsFirm (q_file name.now)) (D.told disk.old) (D.told disk.new))) }
+    ensures firm { IfOk result (λ new. OnReplace new (Leaves (IsFirm (q_file name.now)) (D.told disk.old)
+        (D.told disk.new))) }
     ensures causes { DiskCauses (IsErrOf result DiskRefusal.Failed) (D.faults disk.old) (D.faults disk.new) }
 {
     match left {
@@ -67,13 +69,16 @@ fn prepare<D: Disk>(left: &PfileLeft, disk: &mut D, name: &Name) -> Result<NewFi
     requires sfile { IsSFileName name.now }
     requires z { IsThere (z_file name.now) (D.told disk.old) }
     requires entries { HasEntries left.now }
-    requires left { IfSome (seen (D.told disk.old)) (λ (v : View). Recovers (v name.now) (v (p_file name.now)) left.now) }
-    ensures view { IfOk result (λ new. option_map (committed name.now (plan false new Keep)) (seen (D.told disk.new)) ≡ option_map (recover_alone name.now) (seen (D.told disk.old))) }
+    requires left { IfSome (seen (D.told disk.old)) (λ (v : View). Recovers (v name.now) (v (p_file name.now))
+        left.now) }
+    ensures view { IfOk result (λ new. option_map (committed name.now (plan false new Keep)) (seen (D.told disk.new))
+        ≡ option_map (recover_alone name.now) (seen (D.told disk.old))) }
     ensures z { OnOk result (IsThere (z_file name.now) (D.told disk.new)) }
     ensures needs { IfOk result (λ new. Needs new (q_file name.now) (p_file name.now) (D.told disk.new)) }
     ensures moves { Moves (is_working name.now) (λ v. v) (seen (D.told disk.old)) (seen (D.told disk.new)) }
     ensures touches { TouchesOnly (is_working name.now) (D.told disk.old) (D.told disk.new) }
-    ensures firm { IfOk result (λ new. OnReplace new (Leaves (IsFirm (q_file name.now)) (D.told disk.old) (D.told disk.new))) }
+    ensures firm { IfOk result (λ new. OnReplace new (Leaves (IsFirm (q_file name.now)) (D.told disk.old)
+        (D.told disk.new))) }
     ensures causes { DiskCauses (IsErrOf result DiskRefusal.Failed) (D.faults disk.old) (D.faults disk.new) }
 {
     match clear_working(disk, name) {
@@ -105,14 +110,19 @@ fn finish<D: Disk>(left: &PfileLeft, disk: &mut D, name: &Name) -> Result<(), St
     requires sfile { IsSFileName name.now }
     requires z { IsThere (z_file name.now) (D.told disk.old) }
     requires entries { HasEntries left.now }
-    requires left { IfSome (seen (D.told disk.old)) (λ (v : View). Recovers (v name.now) (v (p_file name.now)) left.now) }
+    requires left { IfSome (seen (D.told disk.old)) (λ (v : View). Recovers (v name.now) (v (p_file name.now))
+        left.now) }
     ensures view { OnOk result (Becomes (recover_alone name.now) (seen (D.told disk.old)) (seen (D.told disk.new))) }
     ensures accepts { (refusal : Refusal) → result ≡ Err (step.Refused refusal) → ⊥ }
-    ensures memory { IsErrOf result StepFault.Memory → Moves (is_working name.now) (λ v. v) (seen (D.told disk.old)) (seen (D.told disk.new)) }
-    ensures cleared { IsErrOf result StepFault.Memory → AreCleared name.now (seen (D.told disk.old)) (seen (D.told disk.new)) }
-    ensures touches { IsErrOf result StepFault.Memory → TouchesOnly (is_working name.now) (D.told disk.old) (D.told disk.new) }
+    ensures memory { IsErrOf result StepFault.Memory → Moves (is_working name.now) (λ v. v) (seen (D.told disk.old))
+        (seen (D.told disk.new)) }
+    ensures cleared { IsErrOf result StepFault.Memory → AreCleared name.now (seen (D.told disk.old))
+        (seen (D.told disk.new)) }
+    ensures touches { IsErrOf result StepFault.Memory → TouchesOnly (is_working name.now) (D.told disk.old)
+        (D.told disk.new) }
     ensures others { KeepsOthers (is_own name.now) (D.told disk.old) (D.told disk.new) }
-    ensures partly { IsErrOf result StepFault.DiskFault → MovesPartly (is_left name.now) (recover_alone name.now) (seen (D.told disk.old)) (seen (D.told disk.new)) }
+    ensures partly { IsErrOf result StepFault.DiskFault → MovesPartly (is_left name.now) (recover_alone name.now)
+        (seen (D.told disk.old)) (seen (D.told disk.new)) }
     ensures story { RecoversOn (D.told disk.old) (D.told disk.new) }
     ensures calm { OnOk result (LeavesCalm (D.told disk.old) (D.told disk.new)) }
     ensures firm { LeavesFirm (D.told disk.old) (D.told disk.new) }
@@ -133,8 +143,10 @@ fn finish<D: Disk>(left: &PfileLeft, disk: &mut D, name: &Name) -> Result<(), St
 fn unlock<D: Disk>(alloc: Global, disk: &mut D, name: &Name) -> Result<(), StepFault>
     requires sfile { IsSFileName name.now }
     requires z { IsThere (z_file name.now) (D.told disk.old) }
-    ensures checks { IfSome (seen (D.told disk.old)) (λ (v : View). PassesChecks (readable (v name.now) (v (p_file name.now))) result) }
-    ensures ends { RecoversName name.now (D.told disk.old) (D.told disk.new) (D.faults disk.old) (D.faults disk.new) result }
+    ensures checks { IfSome (seen (D.told disk.old)) (λ (v : View). PassesChecks
+        (readable (v name.now) (v (p_file name.now))) result) }
+    ensures ends { RecoversName name.now (D.told disk.old) (D.told disk.new) (D.faults disk.old) (D.faults disk.new)
+        result }
 {
     match read_left(alloc, disk, name) {
         Ok(left) => finish(&left, disk, name),
@@ -145,8 +157,10 @@ fn unlock<D: Disk>(alloc: Global, disk: &mut D, name: &Name) -> Result<(), StepF
 // recovers a name whose z-file isn't there: its y-file goes
 fn tidy<D: Disk>(disk: &mut D, name: &Name) -> Result<(), Failed>
     requires { IsSFileName name.now }
-    ensures view { OnOk result (Becomes (without_name (y_file name.now)) (seen (D.told disk.old)) (seen (D.told disk.new))) }
-    ensures view_err { OnErr result (Moves (is_working name.now) (λ v. v) (seen (D.told disk.old)) (seen (D.told disk.new))) }
+    ensures view { OnOk result (Becomes (without_name (y_file name.now)) (seen (D.told disk.old))
+        (seen (D.told disk.new))) }
+    ensures view_err { OnErr result (Moves (is_working name.now) (λ v. v) (seen (D.told disk.old))
+        (seen (D.told disk.new))) }
     ensures others { KeepsOthers (is_own name.now) (D.told disk.old) (D.told disk.new) }
     ensures story { RecoversOn (D.told disk.old) (D.told disk.new) }
     ensures calm { OnOk result (LeavesCalm (D.told disk.old) (D.told disk.new)) }
@@ -167,9 +181,11 @@ fn tidy<D: Disk>(disk: &mut D, name: &Name) -> Result<(), Failed>
 /// disk is calm. The checks are made only where the z-file is there, and at a refusal nothing has changed.
 pub fn recover<D: Disk>(alloc: Global, disk: &mut D, name: &Name) -> Result<Recovered, StepFault>
     requires { IsSFileName name.now }
-    ensures clean { IfOk result (λ answer. IfSome (seen (D.told disk.old)) (λ (v : View). (answer ≡ Recovered.Clean) ↔ (v (z_file name.now) ≡ None))) }
+    ensures clean { IfOk result (λ answer. IfSome (seen (D.told disk.old)) (λ (v : View). (answer ≡ Recovered.Clean)
+        ↔ (v (z_file name.now) ≡ None))) }
     ensures checks { IfSome (seen (D.told disk.old)) (λ (v : View). PassesChecks (checked name.now v) result) }
-    ensures ends { RecoversName name.now (D.told disk.old) (D.told disk.new) (D.faults disk.old) (D.faults disk.new) result }
+    ensures ends { RecoversName name.now (D.told disk.old) (D.told disk.new) (D.faults disk.old) (D.faults disk.new)
+        result }
 {
     match disk.size(&name.sibling(b'z')) {
         Ok(Some(_)) => match unlock(alloc, disk, name) {

@@ -22,23 +22,32 @@ use Rattle.sccs_replays.proofs.LeftFiles.{s_of}
 use Rattle.sccs_replays.proofs.AlteredVersions.{same_file}
 
 -- the changed file has the versions of the old one
-changed_versions : (words : CdcWords) (stamp : Stamp) (f : Files) (s : Content) (d : StepEffect) (texts : Texts) → ChangesDelta words stamp f s d → HasVersions (Some s) texts → HasVersions (s_of (Some s) d.new) (if is_some d.new then texts else texts)
+changed_versions : (words : CdcWords) (stamp : Stamp) (f : Files) (s : Content) (d : StepEffect) (texts : Texts)
+    → ChangesDelta words stamp f s d → HasVersions (Some s) texts → HasVersions (s_of (Some s) d.new) (if is_some d.new
+    then texts else texts)
 changed_versions words stamp f s d texts made are =
     let same : are.file ≡ made.before = same_file s.bytes are.file made.before are.reads made.was in
-    let was = subst (λ (file : Parsed). (m : ℕ) → has (live_serials file.header.records) m ≡ true → version_text file m ≡ texts m) same are.versions in
-    subst (λ (new : Option Files). HasVersions (s_of (Some s) new) (if is_some new then texts else texts)) (sym made.files)
+    let was = subst (λ (file : Parsed). (m : ℕ) → has (live_serials file.header.records) m ≡ true
+    → version_text file m ≡ texts m) same are.versions in
+    subst (λ (new : Option Files). HasVersions (s_of (Some s) new) (if is_some new then texts else texts))
+    (sym made.files)
     (record {
       file = made.after;
       reads = made.reads;
-      rooted = same_rooted made.after.header.records made.before.header.records made.texts.deltas ∙ (ap (λ (file : Parsed). is_rooted file.header.records) (sym same) ∙ are.rooted);
+      rooted = same_rooted made.after.header.records made.before.header.records made.texts.deltas
+          ∙ (ap (λ (file : Parsed). is_rooted file.header.records) (sym same) ∙ are.rooted);
       versions = λ m live. made.texts.versions m ∙ was m (ap (λ (ls : List ℕ). has ls m) (sym made.texts.live) ∙ live);
     })
 
-pub changed_goes : (words : CdcWords) (stamp : Stamp) (n i : List ℕ) (named : List (Option Content)) (f : Files) (texts : Texts) (d : StepEffect) → HasLines words stamp → cdc_outcome words stamp n i named f ≡ Ok d → HasVersions f.s texts → HasVersions (s_of f.s d.new) (if is_some d.new then texts else texts)
+pub changed_goes : (words : CdcWords) (stamp : Stamp) (n i : List ℕ) (named : List (Option Content)) (f : Files)
+    (texts : Texts) (d : StepEffect) → HasLines words stamp → cdc_outcome words stamp n i named f ≡ Ok d
+    → HasVersions f.s texts → HasVersions (s_of f.s d.new) (if is_some d.new then texts else texts)
 changed_goes words stamp n i named f texts d lines is = by f.s refl
   where
-    by : (s : Option Content) → f.s ≡ s → HasVersions f.s texts → HasVersions (s_of f.s d.new) (if is_some d.new then texts else texts)
+    by : (s : Option Content) → f.s ≡ s → HasVersions f.s texts → HasVersions (s_of f.s d.new) (if is_some d.new
+        then texts else texts)
     by None none = absurd (file_needed words stamp n i named f d is none)
     by (Some s) there =
-        subst (λ (o : Option Content). HasVersions o texts → HasVersions (s_of o d.new) (if is_some d.new then texts else texts)) (sym there)
+        subst (λ (o : Option Content). HasVersions o texts → HasVersions (s_of o d.new) (if is_some d.new then texts
+        else texts)) (sym there)
         (λ are. changed_versions words stamp f s d texts (cdc_made words stamp n i named f s d lines there is) are)

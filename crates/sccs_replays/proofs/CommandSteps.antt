@@ -1,5 +1,6 @@
 -- What the steps of a command make of the versions of an s-file.
-use Rattle.std.proofs.Common.{◌≡◌, ◌⊎◌, ℕ, Bool, true, false, ◌&&◌, List, [], ◌∷◌, map, Option, None, Some, inl, inr, refl, sym, ap, subst, ⊎_elim}
+use Rattle.std.proofs.Common.{◌≡◌, ◌⊎◌, ℕ, Bool, true, false, ◌&&◌, List, [], ◌∷◌, map, Option, None, Some, inl, inr}
+use Rattle.std.proofs.Common.{refl, sym, ap, subst, ⊎_elim}
 use Rattle.std.specs.Prelude.{if◌then◌else◌, is_some}
 use Rattle.std.specs.Str.{bytes_eq}
 use Rattle.std.proofs.lemmas.Slice.Eq.{bytes_eq-Decides}
@@ -51,15 +52,25 @@ either_keeps true x y first second = first
 either_keeps false x y first second = second
 
 nothing_keeps : KeepsFiles no_action
-nothing_keeps = record { quiet = λ reads n i named f d is. absurd cc; names = λ changes n fits. absurd cc; locked = λ changes locks n i named f d is there g new. absurd cc; pending = λ changes never n i v f d there is. absurd cc }
+nothing_keeps = record {
+  quiet = λ reads n i named f d is. absurd cc;
+  names = λ changes n fits. absurd cc;
+  locked =
+      λ changes locks n i named f d is there g new. absurd cc;
+  pending = λ changes never n i v f d there is. absurd cc;
+}
 
 by_keeps : (who : Caller) (command : Command) → KeepsFiles ((single_of command).by who)
 by_keeps who (c.Admin words operands) =
-    either_keeps words.fresh (locking (admin_change words who.stamp)) (admin_there words) (locking_keeps (admin_change words who.stamp))
-    (either_keeps words.check check_action (locking (alter_change words)) check_keeps (locking_keeps (alter_change words)))
+    either_keeps words.fresh (locking (admin_change words who.stamp)) (admin_there words)
+    (locking_keeps (admin_change words who.stamp))
+    (either_keeps words.check check_action (locking (alter_change words)) check_keeps
+    (locking_keeps (alter_change words)))
 by_keeps who (c.Get words operands) =
-    either_keeps words.edit (locking (edit_change words who.stamp who.place (has_heading operands))) (get_action words who.stamp who.place (has_heading operands))
-    (locking_keeps (edit_change words who.stamp who.place (has_heading operands))) (get_keeps words who.stamp who.place (has_heading operands))
+    either_keeps words.edit (locking (edit_change words who.stamp who.place (has_heading operands)))
+    (get_action words who.stamp who.place (has_heading operands))
+    (locking_keeps (edit_change words who.stamp who.place (has_heading operands))) (get_keeps words who.stamp who.place
+    (has_heading operands))
 by_keeps who (c.Delta words name) = locking_keeps (delta_change words who.stamp)
 by_keeps who (c.Unget words operands) = locking_keeps (unget_change words who.stamp (has_heading operands))
 by_keeps who (c.Sact operands) = sact_keeps (has_heading operands)
@@ -82,10 +93,12 @@ hushed_keeps None true x keeps = dropping_keeps x keeps
 hushed_keeps None false x keeps = keeps
 
 pub command_keeps : (who : Caller) (command : Command) → KeepsFiles (action_of who command)
-command_keeps who command = hushed_keeps (val_words_of command) who.quiet ((single_of command).by who) (by_keeps who command)
+command_keeps who command = hushed_keeps (val_words_of command) who.quiet ((single_of command).by who)
+    (by_keeps who command)
 
 -- the s-file of another name stays
-other_stays : (x : Action) (i n : List ℕ) (m : Folder) (t : NamedStep) → KeepsFiles x → IsSFileName n → (x.fits t.name ≡ true → IsPlainFor x t.name) → bytes_eq t.name n ≡ false → IsStepOf x i m t
+other_stays : (x : Action) (i n : List ℕ) (m : Folder) (t : NamedStep) → KeepsFiles x → IsSFileName n
+    → (x.fits t.name ≡ true → IsPlainFor x t.name) → bytes_eq t.name n ≡ false → IsStepOf x i m t
     → view_in (moved_in m t.name t.effect.new) n ≡ view_in m n
 other_stays x i n m t keeps sfile plain apart is = stays is.made
   where
@@ -94,48 +107,68 @@ other_stays x i n m t keeps sfile plain apart is = stays is.made
     stays (inr made) = by x.reads refl
       where
         by : (reads : Bool) → x.reads ≡ reads → view_in (moved_in m t.name t.effect.new) n ≡ view_in m n
-        by true is = ap (λ (new : Option Files). view_in (moved_in m t.name new) n) (keeps.quiet is t.name i (map (view_in m) (x.named t.name)) (look (view_in m) t.name) t.effect made.made)
+        by true is = ap (λ (new : Option Files). view_in (moved_in m t.name new) n)
+            (keeps.quiet is t.name i (map (view_in m) (x.named t.name)) (look (view_in m) t.name) t.effect made.made)
         by false is = other_file m t.name n t.effect.new sfile (plain made.fits is) apart
 
 -- the versions of the step's own name
-own_goes : (who : Caller) (command : Command) (i : List ℕ) (m : Folder) (t : NamedStep) (texts : Texts) → IsMoment who.stamp.moment → IsLogin who.stamp.login → HasMeantValues command
-    → IsStepOf (action_of who command) i m t → Goes (view_in m t.name) t.effect.new texts (versions_after_command who command i m t.name texts)
+own_goes : (who : Caller) (command : Command) (i : List ℕ) (m : Folder) (t : NamedStep) (texts : Texts)
+    → IsMoment who.stamp.moment → IsLogin who.stamp.login → HasMeantValues command
+    → IsStepOf (action_of who command) i m t → Goes (view_in m t.name) t.effect.new texts
+    (versions_after_command who command i m t.name texts)
 own_goes who command i m t texts moment login values is = goes is.made
   where
-    goes : (t.effect.new ≡ None) ⊎ IsMadeOf (action_of who command) i m t → Goes (view_in m t.name) t.effect.new texts (versions_after_command who command i m t.name texts)
-    goes (inl none) = subst (λ (new : Option Files). Goes (view_in m t.name) new texts (versions_after_command who command i m t.name texts)) (sym none) (λ are. are)
+    goes : (t.effect.new ≡ None) ⊎ IsMadeOf (action_of who command) i m t → Goes (view_in m t.name) t.effect.new texts
+        (versions_after_command who command i m t.name texts)
+    goes (inl none) = subst (λ (new : Option Files). Goes (view_in m t.name) new texts
+        (versions_after_command who command i m t.name texts)) (sym none) (λ are. are)
     goes (inr made) = command_goes who command i t.name m texts t.effect moment login values made.made
 
-pub step_goes : (who : Caller) (command : Command) (i n : List ℕ) (m : Folder) (t : NamedStep) (texts : Texts) → IsSFileName n → IsMoment who.stamp.moment → IsLogin who.stamp.login → HasMeantValues command
-    → ((action_of who command).fits t.name ≡ true → IsPlainFor (action_of who command) t.name) → IsStepOf (action_of who command) i m t
-    → HasVersions (view_in m n) texts → HasVersions (view_in (step_in m t) n) (versions_after_step who command i n m t texts)
+pub step_goes : (who : Caller) (command : Command) (i n : List ℕ) (m : Folder) (t : NamedStep) (texts : Texts)
+    → IsSFileName n → IsMoment who.stamp.moment → IsLogin who.stamp.login → HasMeantValues command
+    → ((action_of who command).fits t.name ≡ true → IsPlainFor (action_of who command) t.name)
+    → IsStepOf (action_of who command) i m t
+    → HasVersions (view_in m n) texts → HasVersions (view_in (step_in m t) n)
+    (versions_after_step who command i n m t texts)
 step_goes who command i n m t texts sfile moment login values plain is are =
-    subst (λ (u : Folder). HasVersions (view_in u n) (versions_after_step who command i n m t texts)) (sym (alone_in m t is.alone)) (⊎_elim own other (name_cases t.name n))
+    subst (λ (u : Folder). HasVersions (view_in u n) (versions_after_step who command i n m t texts))
+    (sym (alone_in m t is.alone)) (⊎_elim own other (name_cases t.name n))
   where
     by_test : (k : List ℕ) (test : Bool) → bytes_eq t.name k ≡ test
-        → HasVersions (view_in (moved_in m t.name t.effect.new) k) (if test && is_some t.effect.new then versions_after_command who command i m k texts else texts)
+        → HasVersions (view_in (moved_in m t.name t.effect.new) k) (if test && is_some t.effect.new
+        then versions_after_command who command i m k texts else texts)
         → HasVersions (view_in (moved_in m t.name t.effect.new) k) (versions_after_step who command i k m t texts)
     by_test k test same has =
-        subst (λ (b : Bool). HasVersions (view_in (moved_in m t.name t.effect.new) k) (if b && is_some t.effect.new then versions_after_command who command i m k texts else texts)) (sym same) has
+        subst (λ (b : Bool). HasVersions (view_in (moved_in m t.name t.effect.new) k) (if b && is_some t.effect.new
+        then versions_after_command who command i m k texts else texts)) (sym same) has
 
-    own : t.name ≡ n → HasVersions (view_in (moved_in m t.name t.effect.new) n) (versions_after_step who command i n m t texts)
+    own : t.name ≡ n → HasVersions (view_in (moved_in m t.name t.effect.new) n)
+        (versions_after_step who command i n m t texts)
     own same =
-        subst (λ (k : List ℕ). HasVersions (view_in m k) texts → HasVersions (view_in (moved_in m t.name t.effect.new) k) (versions_after_step who command i k m t texts)) same
+        subst (λ (k : List ℕ). HasVersions (view_in m k) texts
+        → HasVersions (view_in (moved_in m t.name t.effect.new) k) (versions_after_step who command i k m t texts))
+        same
         (λ has. by_test t.name true ((bytes_eq-Decides t.name t.name).1 refl)
-        (subst (λ (o : Option Content). HasVersions o (if is_some t.effect.new then versions_after_command who command i m t.name texts else texts)) (sym (own_file m t.name t.effect.new))
+        (subst (λ (o : Option Content). HasVersions o (if is_some t.effect.new then versions_after_command who command i
+        m t.name texts else texts)) (sym (own_file m t.name t.effect.new))
         (own_goes who command i m t texts moment login values is has))) are
 
-    other : bytes_eq t.name n ≡ false → HasVersions (view_in (moved_in m t.name t.effect.new) n) (versions_after_step who command i n m t texts)
+    other : bytes_eq t.name n ≡ false → HasVersions (view_in (moved_in m t.name t.effect.new) n)
+        (versions_after_step who command i n m t texts)
     other apart =
-        by_test n false apart (subst (λ (o : Option Content). HasVersions o texts) (sym (other_stays (action_of who command) i n m t (command_keeps who command) sfile plain apart is)) are)
+        by_test n false apart (subst (λ (o : Option Content). HasVersions o texts)
+        (sym (other_stays (action_of who command) i n m t (command_keeps who command) sfile plain apart is)) are)
 
 -- ---- steps, and runs
 
 -- those of a command that only makes the steps of its operands
-pub steps_go : (who : Caller) (command : Command) (i n : List ℕ) (m : Folder) (ts : List NamedStep) (texts : Texts) → IsSFileName n → IsMoment who.stamp.moment → IsLogin who.stamp.login → HasMeantValues command
+pub steps_go : (who : Caller) (command : Command) (i n : List ℕ) (m : Folder) (ts : List NamedStep) (texts : Texts)
+    → IsSFileName n → IsMoment who.stamp.moment → IsLogin who.stamp.login → HasMeantValues command
     → ArePlain (action_of who command) ts → AreStepsOf (action_of who command) i m ts
-    → HasVersions (view_in m n) texts → HasVersions (view_in (folder_after m ts) n) (versions_after_steps None who command i n m ts texts)
+    → HasVersions (view_in m n) texts → HasVersions (view_in (folder_after m ts) n)
+    (versions_after_steps None who command i n m ts texts)
 steps_go who command i n m [] texts sfile moment login values plain are has = has
 steps_go who command i n m (t ∷ ts) texts sfile moment login values plain are has =
-    steps_go who command i n (step_in m t) ts (versions_after_step who command i n m t texts) sfile moment login values plain.1 are.1
+    steps_go who command i n (step_in m t) ts (versions_after_step who command i n m t texts) sfile moment login values
+    plain.1 are.1
     (step_goes who command i n m t texts sfile moment login values plain.0 are.0 has)

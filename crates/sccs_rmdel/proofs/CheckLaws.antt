@@ -1,5 +1,6 @@
 -- What holds of a delta that may be removed.
-use Rattle.std.proofs.Common.{◌≡◌, ◌==◌, Bool, true, false, cond, not, ◌&&◌, List, [], ◌∷◌, Option, None, Some, Result, Ok, refl, sym, ap, subst, ◌∙◌}
+use Rattle.std.proofs.Common.{◌≡◌, ◌==◌, Bool, true, false, cond, not, ◌&&◌, List, [], ◌∷◌, Option, None, Some, Result}
+use Rattle.std.proofs.Common.{Ok, refl, sym, ap, subst, ◌∙◌}
 use Rattle.std.proofs.lemmas.Bool.{and_parts, not-true}
 use Rattle.sccs_sid.specs.declared.moments.Stamp.{Stamp}
 use Rattle.sccs_sid.specs.declared.sids.Sid.{Sid}
@@ -36,7 +37,8 @@ pub record IsRemovable (sid : Sid) (header : Header) (edits : List Edit) (delta 
   pub free : is_edited edits sid ≡ false
   pub leaf : is_leaf header.records delta ≡ true
 
-pub removable_is : (sid : Sid) (stamp : Stamp) (header : Header) (edits : List Edit) (delta : Record) → removable sid stamp header edits ≡ Ok delta → IsRemovable sid header edits delta
+pub removable_is : (sid : Sid) (stamp : Stamp) (header : Header) (edits : List Edit) (delta : Record)
+    → removable sid stamp header edits ≡ Ok delta → IsRemovable sid header edits delta
 unfolding removable
 removable_is sid stamp header edits delta is =
     let allowed = passed (check (is_allowed header.users stamp.login) refusals.NotAllowed) _ delta is in
@@ -52,16 +54,22 @@ removable_is sid stamp header edits delta is =
     })
 
 -- no live delta rests on a leaf
-pub leaf_is_free : (records : List Record) (delta : Record) → is_leaf records delta ≡ true → is_base records delta.serial ≡ false
+pub leaf_is_free : (records : List Record) (delta : Record) → is_leaf records delta ≡ true
+    → is_base records delta.serial ≡ false
 leaf_is_free records delta is =
-    let both = and_parts (not (first_made (λ a. a.serial == delta.serial) records)) (not (has_later records delta.sid) && not (is_base records delta.serial)) is in
-    not-true (is_base records delta.serial) (and_parts (not (has_later records delta.sid)) (not (is_base records delta.serial)) both.1).1
+    let both = and_parts (not (first_made (λ a. a.serial == delta.serial) records)) (not (has_later records delta.sid)
+    && not (is_base records delta.serial)) is in
+    not-true (is_base records delta.serial) (and_parts (not (has_later records delta.sid))
+    (not (is_base records delta.serial)) both.1).1
 
 -- a delta that is found is live
-pub found_live : (records : List Record) (sid : Sid) (delta : Record) → live_delta records sid ≡ Some delta → has (live_serials records) delta.serial ≡ true
+pub found_live : (records : List Record) (sid : Sid) (delta : Record) → live_delta records sid ≡ Some delta
+    → has (live_serials records) delta.serial ≡ true
 found_live [] sid delta is = absurd cc
 found_live (r ∷ rs) sid delta is =
-    by_test (λ t. cond t (Some r) (live_delta rs sid) ≡ Some delta → has (live_serials (r ∷ rs)) delta.serial ≡ true) (not r.removed && same_sid r.sid sid)
+    by_test (λ t. cond t (Some r) (live_delta rs sid) ≡ Some delta → has (live_serials (r ∷ rs)) delta.serial ≡ true)
+    (not r.removed && same_sid r.sid sid)
     (λ here found. let same : r ≡ delta = cc in
-    ap (λ (x : Record). has (live_serials (r ∷ rs)) x.serial) (sym same) ∙ has_front_self (not r.removed) r.serial (live_serials rs) (and_parts (not r.removed) (same_sid r.sid sid) here).0)
+    ap (λ (x : Record). has (live_serials (r ∷ rs)) x.serial) (sym same) ∙ has_front_self (not r.removed) r.serial
+    (live_serials rs) (and_parts (not r.removed) (same_sid r.sid sid) here).0)
     (λ away found. has_front (not r.removed) r.serial (live_serials rs) delta.serial (found_live rs sid delta found)) is

@@ -1,8 +1,11 @@
 -- The items of a body without those of a serial: their lines, and the rules that they keep.
-use Rattle.std.proofs.Common.{◌≡◌, ◌≢◌, ℕ, ◌+◌, ◌==◌, nat_lt, Bool, true, false, cond, not, ◌&&◌, ◌||◌, List, [], ◌∷◌, refl, sym, ap, ◌∙◌, inl, inr, arith}
+use Rattle.std.proofs.Common.{◌≡◌, ◌≢◌, ℕ, ◌+◌, ◌==◌, nat_lt, Bool, true, false, cond, not, ◌&&◌, ◌||◌, List, [], ◌∷◌}
+use Rattle.std.proofs.Common.{refl, sym, ap, ◌∙◌, inl, inr, arith}
 use Rattle.std.proofs.lemmas.Bool.{ne_eqb, eqb-true, eqb-false, false≢true, cases_eq}
 use Rattle.sccs_history.specs.Numbers.{falling, first, front_if, has, is_empty, without, Falls}
-use Rattle.sccs_history.specs.Body.{GoesOn, HistoryLine, Mark, Closed, ByInsert, ByDelete, is_closed, is_insert, is_delete, mark, above, inserters, inserter, open_serials, deleters, line_at, lines_behind, lines_of}
+use Rattle.sccs_history.specs.Body.{GoesOn, HistoryLine, Mark, Closed, ByInsert, ByDelete, is_closed, is_insert}
+use Rattle.sccs_history.specs.Body.{is_delete, mark, above, inserters, inserter, open_serials, deleters, line_at}
+use Rattle.sccs_history.specs.Body.{lines_behind, lines_of}
 use Rattle.sccs_history.specs.Removal.{dropped, dropped_behind, dropped_lines}
 use Rattle.sccs_history.specs.declared.headers.Item.{Item}
 use Rattle.sccs_history.specs.declared.headers.Item.TheVariants.{Text, Insert, Delete, End}
@@ -60,18 +63,25 @@ pub nothing_open : (n : ℕ) → Clear n [] []
 nothing_open n = record { others = λ m other. refl; own = refl }
 
 module _ (n : ℕ) (before after : List Item) (clear : Clear n before after) where
-  passing_clear : (test : ℕ → Mark → Bool) → ((m : ℕ) → test m Closed ≡ false) → passing test after ≡ without n (passing test before)
+  passing_clear : (test : ℕ → Mark → Bool) → ((m : ℕ) → test m Closed ≡ false) → passing test after ≡ without n
+      (passing test before)
   passing_clear test none =
       falling_same (above after + above before) (passing test after) (without n (passing test before))
-      (Falls-wider (above after) (above after + above before) (passing test after) (omega arith) (Falls-falling (above after) (λ m. test m (mark m after))))
-      (Falls-wider (above before) (above after + above before) (without n (passing test before)) (omega arith) (Falls-without n (above before) (passing test before) (Falls-falling (above before) (λ m. test m (mark m before)))))
+      (Falls-wider (above after) (above after + above before) (passing test after) (omega arith)
+      (Falls-falling (above after) (λ m. test m (mark m after))))
+      (Falls-wider (above before) (above after + above before) (without n (passing test before)) (omega arith)
+      (Falls-without n (above before) (passing test before) (Falls-falling (above before)
+      (λ m. test m (mark m before)))))
       (λ m. has_test after test none m ∙ each m)
     where
       each : (m : ℕ) → test m (mark m after) ≡ has (without n (passing test before)) m
       each m =
           elim (cases_eq m n) [
-            | inl same ↦ ap (λ k. test k (mark k after)) same ∙ (ap (test n) clear.own ∙ (none n ∙ (sym (has-without_own n (passing test before)) ∙ ap (has (without n (passing test before))) (sym same))))
-            | inr other ↦ ap (test m) (clear.others m other) ∙ (sym (has_test before test none m) ∙ sym (has-without n m (passing test before) other))
+            | inl same ↦ ap (λ k. test k (mark k after)) same
+                ∙ (ap (test n) clear.own ∙ (none n ∙ (sym (has-without_own n (passing test before))
+                ∙ ap (has (without n (passing test before))) (sym same))))
+            | inr other ↦ ap (test m) (clear.others m other) ∙ (sym (has_test before test none m)
+                ∙ sym (has-without n m (passing test before) other))
           ]
 
   inserters_clear : inserters after ≡ without n (inserters before)
@@ -88,7 +98,8 @@ module _ (n : ℕ) (before after : List Item) (clear : Clear n before after) whe
       ap (λ k. falling (above after) (λ m. is_delete (mark m after) && nat_lt k m)) (inserter_clear other)
       ∙ passing_clear (λ m k. is_delete k && nat_lt (inserter before) m) (λ m. refl)
 
-  line_clear : (text : List ℕ) → (inserter before == n) ≡ false → line_at after text ≡ record (line_at before text) { deleters = without n (deleters before) }
+  line_clear : (text : List ℕ) → (inserter before == n) ≡ false
+      → line_at after text ≡ record (line_at before text) { deleters = without n (deleters before) }
   line_clear text other =
       ap (λ k. a_line k (deleters after)) (inserter_clear other) ∙ ap (a_line (inserter before)) (deleters_clear other)
     where
@@ -118,9 +129,11 @@ module _ (n : ℕ) (before after : List Item) (clear : Clear n before after) whe
   }
 
   -- one that is left out
-  skip_own : (m : ℕ) (here : Mark) → (m == n) ≡ true → (k : ℕ) → k ≢ n → mark k after ≡ cond (m == k) here (mark k before)
+  skip_own : (m : ℕ) (here : Mark) → (m == n) ≡ true → (k : ℕ) → k ≢ n → mark k after ≡ cond (m == k) here
+      (mark k before)
   skip_own m here same k other =
-      clear.others k other ∙ ap (λ t. cond t here (mark k before)) (sym (ne_eqb m k (λ is. other (sym is ∙ eqb-true m n same))))
+      clear.others k other ∙ ap (λ t. cond t here (mark k before))
+      (sym (ne_eqb m k (λ is. other (sym is ∙ eqb-true m n same))))
 
   skip_insert : (m : ℕ) → (m == n) ≡ true → Clear n (Insert m ∷ before) after
   skip_insert m same = record { others = skip_own m ByInsert same; own = clear.own }
@@ -142,23 +155,31 @@ module _ (n : ℕ) (before after : List Item) (clear : Clear n before after) whe
 abbrev line_without : ℕ → List Item → List ℕ → HistoryLine
 line_without n before text = record (line_at before text) { deleters = without n (deleters before) }
 
-lines_left : (n : ℕ) (before after items : List Item) → Clear n before after → lines_behind after (dropped_behind n before items) ≡ dropped_lines n (lines_behind before items)
+lines_left : (n : ℕ) (before after items : List Item) → Clear n before after
+    → lines_behind after (dropped_behind n before items) ≡ dropped_lines n (lines_behind before items)
 lines_left n before after [] clear = refl
 lines_left n before after (Text text ∷ items) clear =
-    by_test (λ t. lines_behind after (front_if (not t) (Text text) (dropped_behind n (Text text ∷ before) items)) ≡ front_if (not t) (line_without n before text) (dropped_lines n (lines_behind (Text text ∷ before) items))) (inserter before == n)
+    by_test (λ t. lines_behind after (front_if (not t) (Text text) (dropped_behind n (Text text ∷ before) items))
+    ≡ front_if (not t) (line_without n before text) (dropped_lines n (lines_behind (Text text ∷ before) items)))
+    (inserter before == n)
     (λ e. lines_left n (Text text ∷ before) after items (skip_text n before after clear text))
-    (λ e. ap (λ line. line ∷ lines_behind (Text text ∷ after) (dropped_behind n (Text text ∷ before) items)) (line_clear n before after clear text e)
-    ∙ ap (λ rest. line_without n before text ∷ rest) (lines_left n (Text text ∷ before) (Text text ∷ after) items (keep_text n before after clear text)))
+    (λ e. ap (λ line. line ∷ lines_behind (Text text ∷ after) (dropped_behind n (Text text ∷ before) items))
+    (line_clear n before after clear text e)
+    ∙ ap (λ rest. line_without n before text ∷ rest) (lines_left n (Text text ∷ before) (Text text ∷ after) items
+    (keep_text n before after clear text)))
 lines_left n before after (Insert m ∷ items) clear =
-    by_test (λ t. lines_behind after (front_if (not t) (Insert m) (dropped_behind n (Insert m ∷ before) items)) ≡ dropped_lines n (lines_behind (Insert m ∷ before) items)) (m == n)
+    by_test (λ t. lines_behind after (front_if (not t) (Insert m) (dropped_behind n (Insert m ∷ before) items))
+    ≡ dropped_lines n (lines_behind (Insert m ∷ before) items)) (m == n)
     (λ e. lines_left n (Insert m ∷ before) after items (skip_insert n before after clear m e))
     (λ e. lines_left n (Insert m ∷ before) (Insert m ∷ after) items (clear_insert n before after clear m e))
 lines_left n before after (Delete m ∷ items) clear =
-    by_test (λ t. lines_behind after (front_if (not t) (Delete m) (dropped_behind n (Delete m ∷ before) items)) ≡ dropped_lines n (lines_behind (Delete m ∷ before) items)) (m == n)
+    by_test (λ t. lines_behind after (front_if (not t) (Delete m) (dropped_behind n (Delete m ∷ before) items))
+    ≡ dropped_lines n (lines_behind (Delete m ∷ before) items)) (m == n)
     (λ e. lines_left n (Delete m ∷ before) after items (skip_delete n before after clear m e))
     (λ e. lines_left n (Delete m ∷ before) (Delete m ∷ after) items (clear_delete n before after clear m e))
 lines_left n before after (End m ∷ items) clear =
-    by_test (λ t. lines_behind after (front_if (not t) (End m) (dropped_behind n (End m ∷ before) items)) ≡ dropped_lines n (lines_behind (End m ∷ before) items)) (m == n)
+    by_test (λ t. lines_behind after (front_if (not t) (End m) (dropped_behind n (End m ∷ before) items))
+    ≡ dropped_lines n (lines_behind (End m ∷ before) items)) (m == n)
     (λ e. lines_left n (End m ∷ before) after items (skip_end n before after clear m e))
     (λ e. lines_left n (End m ∷ before) (End m ∷ after) items (clear_end n before after clear m e))
 
@@ -170,36 +191,48 @@ lines_dropped n items = lines_left n [] [] items (nothing_open n)
 two : (a b c d : Bool) → (a && b) ≡ true → c ≡ a → d ≡ b → (c && d) ≡ true
 two a b c d both one other = ap (λ t. t && d) one ∙ (ap (λ t. a && t) other ∙ both)
 
-rules_left : (live : List ℕ) (n : ℕ) (before after items : List Item) → Clear n before after → GoesOn live before items → GoesOn (without n live) after (dropped_behind n before items)
-rules_left live n before after [] clear over = ap is_empty (open_clear n before after clear) ∙ none-without n (open_serials before) over
+rules_left : (live : List ℕ) (n : ℕ) (before after items : List Item) → Clear n before after → GoesOn live before items
+    → GoesOn (without n live) after (dropped_behind n before items)
+rules_left live n before after [] clear over = ap is_empty (open_clear n before after clear)
+    ∙ none-without n (open_serials before) over
 rules_left live n before after (Text text ∷ items) clear goes =
-    by_test (λ t. GoesOn (without n live) after (front_if (not t) (Text text) (dropped_behind n (Text text ∷ before) items))) (inserter before == n)
+    by_test (λ t. GoesOn (without n live) after (front_if (not t) (Text text)
+    (dropped_behind n (Text text ∷ before) items))) (inserter before == n)
     (λ e. rules_left live n (Text text ∷ before) after items (skip_text n before after clear text) goes.1)
     (λ e. (
-      ap (λ ns. not (is_empty ns)) (inserters_clear n before after clear) ∙ (ap not (some-without n (inserters before) e) ∙ goes.0),
+      ap (λ ns. not (is_empty ns)) (inserters_clear n before after clear)
+          ∙ (ap not (some-without n (inserters before) e) ∙ goes.0),
       rules_left live n (Text text ∷ before) (Text text ∷ after) items (keep_text n before after clear text) goes.1,
     ))
 rules_left live n before after (Insert m ∷ items) clear goes =
-    by_test (λ t. GoesOn (without n live) after (front_if (not t) (Insert m) (dropped_behind n (Insert m ∷ before) items))) (m == n)
+    by_test (λ t. GoesOn (without n live) after (front_if (not t) (Insert m)
+    (dropped_behind n (Insert m ∷ before) items))) (m == n)
     (λ e. rules_left live n (Insert m ∷ before) after items (skip_insert n before after clear m e) goes.1)
     (λ e. (
-      two (has live m) (is_closed (mark m before)) (has (without n live) m) (is_closed (mark m after)) goes.0 (has-without n m live (eqb-false m n e)) (ap is_closed (clear.others m (eqb-false m n e))),
+      two (has live m) (is_closed (mark m before)) (has (without n live) m) (is_closed (mark m after)) goes.0
+          (has-without n m live (eqb-false m n e)) (ap is_closed (clear.others m (eqb-false m n e))),
       rules_left live n (Insert m ∷ before) (Insert m ∷ after) items (clear_insert n before after clear m e) goes.1,
     ))
 rules_left live n before after (Delete m ∷ items) clear goes =
-    by_test (λ t. GoesOn (without n live) after (front_if (not t) (Delete m) (dropped_behind n (Delete m ∷ before) items))) (m == n)
+    by_test (λ t. GoesOn (without n live) after (front_if (not t) (Delete m)
+    (dropped_behind n (Delete m ∷ before) items))) (m == n)
     (λ e. rules_left live n (Delete m ∷ before) after items (skip_delete n before after clear m e) goes.1)
     (λ e. (
-      two (has live m) (is_closed (mark m before)) (has (without n live) m) (is_closed (mark m after)) goes.0 (has-without n m live (eqb-false m n e)) (ap is_closed (clear.others m (eqb-false m n e))),
+      two (has live m) (is_closed (mark m before)) (has (without n live) m) (is_closed (mark m after)) goes.0
+          (has-without n m live (eqb-false m n e)) (ap is_closed (clear.others m (eqb-false m n e))),
       rules_left live n (Delete m ∷ before) (Delete m ∷ after) items (clear_delete n before after clear m e) goes.1,
     ))
 rules_left live n before after (End m ∷ items) clear goes =
-    by_test (λ t. GoesOn (without n live) after (front_if (not t) (End m) (dropped_behind n (End m ∷ before) items))) (m == n)
+    by_test (λ t. GoesOn (without n live) after (front_if (not t) (End m) (dropped_behind n (End m ∷ before) items)))
+    (m == n)
     (λ e. rules_left live n (End m ∷ before) after items (skip_end n before after clear m e) goes.1)
     (λ e. (
-      two (has live m) (not (is_closed (mark m before))) (has (without n live) m) (not (is_closed (mark m after))) goes.0 (has-without n m live (eqb-false m n e)) (ap (λ k. not (is_closed k)) (clear.others m (eqb-false m n e))),
+      two (has live m) (not (is_closed (mark m before))) (has (without n live) m) (not (is_closed (mark m after)))
+          goes.0 (has-without n m live (eqb-false m n e)) (ap (λ k. not (is_closed k))
+          (clear.others m (eqb-false m n e))),
       rules_left live n (End m ∷ before) (End m ∷ after) items (clear_end n before after clear m e) goes.1,
     ))
 
-pub rules_dropped : (live : List ℕ) (n : ℕ) (items : List Item) → GoesOn live [] items → GoesOn (without n live) [] (dropped n items)
+pub rules_dropped : (live : List ℕ) (n : ℕ) (items : List Item) → GoesOn live [] items → GoesOn (without n live) []
+    (dropped n items)
 rules_dropped live n items goes = rules_left live n [] [] items (nothing_open n) goes

@@ -18,14 +18,17 @@ pub record IsFrontWith (file : List ℕ) (front : Front) (items : List Item) : T
   pub front_is : IsFrontFor file front
   pub items_are : items_of file front ≡ Ok items
 
-pub body_there : (s p : Option Content) (x : Pending) (told : Option (List ℕ)) (read : AnswersPending s p (Ok x)) → IsPlaced x.front → told ≡ bytes_at s → (file : List ℕ) × (told ≡ Some file) × IsFrontWith file x.front read.0.items
+pub body_there : (s p : Option Content) (x : Pending) (told : Option (List ℕ)) (read : AnswersPending s p (Ok x))
+    → IsPlaced x.front → told ≡ bytes_at s → (file : List ℕ) × (told ≡ Some file)
+    × IsFrontWith file x.front read.0.items
 body_there None p x told read placed same = absurd read.1
 body_there (Some s) p x told read placed same = (
   s.bytes,
   same,
   record {
     front_is = record { placed = placed; size = read.1.1.2.size; sum = read.1.1.2.sum };
-    items_are = file_items s.bytes read.0 read.1.1.0 x.front (pending_answer s p (record { parsed = read.0; edits = x.edits }) read.2) read.1.1.1 read.1.1.2;
+    items_are = file_items s.bytes read.0 read.1.1.0 x.front
+        (pending_answer s p (record { parsed = read.0; edits = x.edits }) read.2) read.1.1.1 read.1.1.2;
   },
 )
 

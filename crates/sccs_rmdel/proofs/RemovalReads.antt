@@ -19,22 +19,33 @@ use Rattle.sccs_rmdel.proofs.RemovedTables.{header_removed, live_removed, spelle
 
 -- ---- what is so of all items is so of those that are left
 
-front_all : (P : Item → Type 0) (t : Bool) (item : Item) (items : List Item) → P item → AllByRecursion P items → AllByRecursion P (front_if t item items)
-front_all P t item items one rest = by_test (λ u. AllByRecursion P (front_if u item items)) t (λ stays. (one, rest)) (λ goes. rest)
+front_all : (P : Item → Type 0) (t : Bool) (item : Item) (items : List Item) → P item → AllByRecursion P items
+    → AllByRecursion P (front_if t item items)
+front_all P t item items one rest = by_test (λ u. AllByRecursion P (front_if u item items)) t (λ stays. (one, rest))
+    (λ goes. rest)
 
-left_all : (P : Item → Type 0) (n : ℕ) (before items : List Item) → AllByRecursion P items → AllByRecursion P (dropped_behind n before items)
+left_all : (P : Item → Type 0) (n : ℕ) (before items : List Item) → AllByRecursion P items
+    → AllByRecursion P (dropped_behind n before items)
 left_all P n before [] are = tt
-left_all P n before (Text text ∷ items) are = front_all P (not (inserter before == n)) (Text text) (dropped_behind n (Text text ∷ before) items) are.0 (left_all P n (Text text ∷ before) items are.1)
-left_all P n before (Insert m ∷ items) are = front_all P (not (m == n)) (Insert m) (dropped_behind n (Insert m ∷ before) items) are.0 (left_all P n (Insert m ∷ before) items are.1)
-left_all P n before (Delete m ∷ items) are = front_all P (not (m == n)) (Delete m) (dropped_behind n (Delete m ∷ before) items) are.0 (left_all P n (Delete m ∷ before) items are.1)
-left_all P n before (End m ∷ items) are = front_all P (not (m == n)) (End m) (dropped_behind n (End m ∷ before) items) are.0 (left_all P n (End m ∷ before) items are.1)
+left_all P n before (Text text ∷ items) are = front_all P (not (inserter before == n)) (Text text)
+    (dropped_behind n (Text text ∷ before) items) are.0 (left_all P n (Text text ∷ before) items are.1)
+left_all P n before (Insert m ∷ items) are = front_all P (not (m == n)) (Insert m)
+    (dropped_behind n (Insert m ∷ before) items) are.0 (left_all P n (Insert m ∷ before) items are.1)
+left_all P n before (Delete m ∷ items) are = front_all P (not (m == n)) (Delete m)
+    (dropped_behind n (Delete m ∷ before) items) are.0 (left_all P n (Delete m ∷ before) items are.1)
+left_all P n before (End m ∷ items) are = front_all P (not (m == n)) (End m) (dropped_behind n (End m ∷ before) items)
+    are.0 (left_all P n (End m ∷ before) items are.1)
 
 -- ---- the file
 
-pub removal_reads : (bytes : List ℕ) (header : Header) (items : List Item) (n : ℕ) → IsSFile bytes header items → IsHeader header → IsSpelled header
+pub removal_reads : (bytes : List ℕ) (header : Header) (items : List Item) (n : ℕ) → IsSFile bytes header items
+    → IsHeader header → IsSpelled header
     → IsSFile (canonical (without_delta n header) (dropped n items)) (without_delta n header) (dropped n items)
 removal_reads bytes header items n whole is spelled =
-    let has_items : HasItems header items = subst (λ r. IfOk r (λ (f : Parsed). HasItems f.header f.items)) whole (file_fits bytes) in
+    let has_items : HasItems header items = subst (λ r. IfOk r (λ (f : Parsed). HasItems f.header f.items)) whole
+    (file_fits bytes) in
     let are : AllByRecursion IsLegal (dropped n items) = left_all IsLegal n [] items (has_items.legal is.rules.table) in
-    canonical_again (without_delta n header) (dropped n items) (header_removed n header is) (spelled_removed n header spelled) (legal_items (dropped n items) are) (legal_lines (dropped n items) are)
-    (subst (λ live. GoesOn live [] (dropped n items)) (sym (live_removed n header.records)) (rules_dropped (live_serials header.records) n items has_items.goes))
+    canonical_again (without_delta n header) (dropped n items) (header_removed n header is)
+    (spelled_removed n header spelled) (legal_items (dropped n items) are) (legal_lines (dropped n items) are)
+    (subst (λ live. GoesOn live [] (dropped n items)) (sym (live_removed n header.records))
+    (rules_dropped (live_serials header.records) n items has_items.goes))

@@ -29,7 +29,9 @@ use Rattle.sccs_rmdel.proofs.RemovalReads.{removal_reads}
 effect_is : (a b : StepEffect) → (let r : Outcome = Ok a in r) ≡ Ok b → a ≡ b
 effect_is a b is = cc
 
-made : (sid : Sid) (stamp : Stamp) (f : Files) (old : Content) (effect : StepEffect) (found : Found) (delta : Record) → pending_of (Some old) f.p ≡ Ok found → removable sid stamp found.parsed.header found.edits ≡ Ok delta → removes f found delta ≡ effect → RemovesDelta sid stamp f old effect
+made : (sid : Sid) (stamp : Stamp) (f : Files) (old : Content) (effect : StepEffect) (found : Found) (delta : Record)
+    → pending_of (Some old) f.p ≡ Ok found → removable sid stamp found.parsed.header found.edits ≡ Ok delta
+    → removes f found delta ≡ effect → RemovesDelta sid stamp f old effect
 made sid stamp f old effect found delta read meant is =
     let file = pending_file old f.p found read in
     let rules = file_keeps old.bytes found.parsed file in
@@ -39,7 +41,11 @@ made sid stamp f old effect found delta read meant is =
       before = found.parsed;
       edits = found.edits;
       delta = delta;
-      after = record { header = without_delta delta.serial found.parsed.header; items = dropped delta.serial found.parsed.items };
+      after = record {
+        header = without_delta delta.serial found.parsed.header;
+        items =
+            dropped delta.serial found.parsed.items;
+      };
       was = file;
       pending = pending_entries (Some old) f.p found read;
       meant = meant;
@@ -48,16 +54,25 @@ made sid stamp f old effect found delta read meant is =
         items = refl;
         lines = lines_dropped delta.serial found.parsed.items;
         live = live_removed delta.serial found.parsed.header.records;
-        versions = λ rooted. versions_kept delta.serial found.parsed.header.records (lines_of found.parsed.items) rules.header.rules.table rooted free;
-        rooted = λ rooted. rooted_removed delta.serial (record { header = found.parsed.header; lines = [] }) rooted free;
+        versions = λ rooted. versions_kept delta.serial found.parsed.header.records (lines_of found.parsed.items)
+            rules.header.rules.table rooted free;
+        rooted = λ rooted. rooted_removed delta.serial (record { header = found.parsed.header; lines = [] }) rooted
+            free;
       };
       files = ap (λ (e : StepEffect). e.new) (sym is);
-      reads = removal_reads old.bytes found.parsed.header found.parsed.items delta.serial file rules.header rules.spelled;
-      left = agreement_kept found.parsed.header.records sid delta found.edits rules.header.rules.table may.found (pending_agrees (Some old) f.p found read) may.free;
+      reads = removal_reads old.bytes found.parsed.header found.parsed.items delta.serial file rules.header
+          rules.spelled;
+      left = agreement_kept found.parsed.header.records sid delta found.edits rules.header.rules.table may.found
+          (pending_agrees (Some old) f.p found read) may.free;
     }
 
-pub removal_made : (sid : Sid) (stamp : Stamp) (n i : List ℕ) (named : List (Option Content)) (f : Files) (old : Content) (effect : StepEffect) → f.s ≡ Some old → rmdel_outcome sid stamp n i named f ≡ Ok effect → RemovesDelta sid stamp f old effect
+pub removal_made : (sid : Sid) (stamp : Stamp) (n i : List ℕ) (named : List (Option Content)) (f : Files)
+    (old : Content) (effect : StepEffect) → f.s ≡ Some old → rmdel_outcome sid stamp n i named f ≡ Ok effect
+    → RemovesDelta sid stamp f old effect
 removal_made sid stamp n i named f old effect there is =
-    let read = passed (pending_of f.s f.p) (λ found. removable sid stamp found.parsed.header found.edits >>= λ delta. Ok (removes f found delta)) effect (sym (outcome_is sid stamp n i named f) ∙ is) in
-    let meant = passed (removable sid stamp read.0.parsed.header read.0.edits) (λ delta. Ok (removes f read.0 delta)) effect read.2 in
-    made sid stamp f old effect read.0 meant.0 (ap (λ (o : Option Content). pending_of o f.p) (sym there) ∙ read.1) meant.1 (effect_is (removes f read.0 meant.0) effect meant.2)
+    let read = passed (pending_of f.s f.p) (λ found. removable sid stamp found.parsed.header found.edits >>= λ delta.
+    Ok (removes f found delta)) effect (sym (outcome_is sid stamp n i named f) ∙ is) in
+    let meant = passed (removable sid stamp read.0.parsed.header read.0.edits) (λ delta. Ok (removes f read.0 delta))
+    effect read.2 in
+    made sid stamp f old effect read.0 meant.0 (ap (λ (o : Option Content). pending_of o f.p) (sym there)
+    ∙ read.1) meant.1 (effect_is (removes f read.0 meant.0) effect meant.2)

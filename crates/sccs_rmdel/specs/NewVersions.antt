@@ -20,7 +20,8 @@ use Rattle.sccs_changes.specs.PFiles.{bytes_or_none}
 use Rattle.sccs_rmdel.specs.Removed.{KeepsVersions, without_delta}
 use Rattle.sccs_rmdel.specs.RmdelStep.{removable}
 
--- A delta is taken out of a file: its record says so and the others stay, its lines and control items are gone, the live
+-- A delta is taken out of a file: its record says so and the others stay, its lines and control items are gone, the
+-- live
 -- deltas are those that were but for it, and in a rooted table each of them has the set and the text that it had.
 pub record TakesOut (before after : Parsed) (delta : Record) : Type 0 where
   pub header : after.header ≡ without_delta delta.serial before.header
@@ -43,6 +44,13 @@ pub record RemovesDelta (sid : Sid) (stamp : Stamp) (f : Files) (old : Content) 
   pub meant : removable sid stamp before.header edits ≡ Ok delta
   pub out : TakesOut before after delta
   -- the new s-file reads as this file; p-file and g-file stay, and the entries agree with the new table
-  pub files : effect.new ≡ Some (record { s = Some (sealed after.header after.items); p = f.p; z = None; g = f.g; l = f.l })
+  pub files : effect.new ≡ Some (record {
+    s = Some (sealed after.header after.items);
+    p = f.p;
+    z = None;
+    g = f.g;
+    l =
+        f.l;
+  })
   pub reads : IsSFile (sealed after.header after.items).bytes after.header after.items
   pub left : Agrees after.header.records edits

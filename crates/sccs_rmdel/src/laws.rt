@@ -46,10 +46,12 @@ pub fn removal_keeps_rules()
         → IsRooted (history_without n h) }
 {}
 
-/// A table whose one live delta is its first is rooted. A rooted table stays so with new deltas, the first of which is made on a live one; and so is the one on
+/// A table whose one live delta is its first is rooted. A rooted table stays so with new deltas, the first of which is
+/// made on a live one; and so is the one on
 /// which the next is made.
 pub fn new_deltas_keep_roots()
-    ensures first { (records : List Record) → IsTable records → live_serials records ≡ 1 ∷ [] → is_rooted records ≡ true }
+    ensures first { (records : List Record) → IsTable records → live_serials records ≡ 1 ∷ []
+        → is_rooted records ≡ true }
     ensures rooted { (header : Header) (on : ℕ) (ds : List NewDelta) → is_rooted header.records ≡ true
         → has (0 ∷ live_serials header.records) on ≡ true → is_rooted (with_deltas header on ds).records ≡ true }
     ensures last { (header : Header) (on : ℕ) (ds : List NewDelta) → has (0 ∷ live_serials header.records) on ≡ true

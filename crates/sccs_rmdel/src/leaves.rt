@@ -1,7 +1,8 @@
 ghost use Rattle.std.specs.Prelude.{◌≡◌, ◌==◌, option_map};
 ghost use Rattle.std.specs.Str.{bytes_eq};
 ghost use Rattle.sccs_history.specs.Numbers.{has};
-ghost use Rattle.sccs_rmdel.specs.Leaves.{first_made, has_later, is_base, is_edited, is_leaf, is_owner, live_delta, rests_on};
+ghost use Rattle.sccs_rmdel.specs.Leaves.{first_made, has_later, is_base, is_edited, is_leaf, is_owner, live_delta};
+ghost use Rattle.sccs_rmdel.specs.Leaves.{rests_on};
 
 use sccs_base::Login;
 use sccs_history::Record;

@@ -1,5 +1,6 @@
 -- Releases: their digits, and how large they are.
-use Rattle.std.proofs.Common.{◌≡◌, ℕ, zero, suc, ◌+◌, ◌-◌, ◌*◌, ◌<◌, ◌≤◌, nat_lt, Bool, true, false, cond, List, [], ◌∷◌, append-nil, Result, Ok, Err, refl, sym, ap, subst, ◌∙◌, arith, lit<, lit≤}
+use Rattle.std.proofs.Common.{◌≡◌, ℕ, zero, suc, ◌+◌, ◌-◌, ◌*◌, ◌<◌, ◌≤◌, nat_lt, Bool, true, false, cond, List, []}
+use Rattle.std.proofs.Common.{◌∷◌, append-nil, Result, Ok, Err, refl, sym, ap, subst, ◌∙◌, arith, lit<, lit≤}
 use Rattle.std.specs.Prelude.{decimal, unwrap_or}
 use Rattle.std.specs.List.{AllByRecursion}
 use Rattle.std.proofs.lemmas.Bool.{false≢true, lt-ltb, ltb-false}
@@ -21,11 +22,13 @@ abbrev pub Reads : ℕ × List ℕ → Type 0
 Reads x = x.1 ≡ []
 
 digit : (b : ℕ) → nat_lt b 48 ≡ false → nat_lt 57 b ≡ false → IsDigit b
-digit b low high = let from : 48 ≤ b = ltb-false b 48 low in let to : b ≤ 57 = ltb-false 57 b high in record { low = omega (arith, from); high = omega (arith, to) }
+digit b low high = let from : 48 ≤ b = ltb-false b 48 low in let to : b ≤ 57 = ltb-false 57 b high in
+    record { low = omega (arith, from); high = omega (arith, to) }
 
 step_digits : (most high b : ℕ) (bytes : List ℕ) (s t : Bool) → nat_lt b 48 ≡ s → nat_lt 57 b ≡ t
     → (Reads (digits_after most (high * 10 + (b - 48)) bytes) → AreDigits bytes)
-    → Reads (cond s (high, b ∷ bytes) (cond t (high, b ∷ bytes) (digits_after most (high * 10 + (b - 48)) bytes))) → AreDigits (b ∷ bytes)
+    → Reads (cond s (high, b ∷ bytes) (cond t (high, b ∷ bytes) (digits_after most (high * 10 + (b - 48)) bytes)))
+    → AreDigits (b ∷ bytes)
 step_digits most high b bytes true t low up more is = absurd cc
 step_digits most high b bytes false true low up more is = absurd cc
 step_digits most high b bytes false false low up more is = (digit b low up, more is)
@@ -35,7 +38,8 @@ unfolding digits_after
 all_digits zero high bytes is = subst AreDigits (sym is) tt
 all_digits (suc most) high [] is = tt
 all_digits (suc most) high (b ∷ bytes) is =
-    step_digits most high b bytes (nat_lt b 48) (nat_lt 57 b) refl refl (all_digits most (high * 10 + (b - 48)) bytes) is
+    step_digits most high b bytes (nat_lt b 48) (nat_lt 57 b) refl refl (all_digits most (high * 10 + (b - 48)) bytes)
+    is
 
 -- a number that all bytes spell
 abbrev pub IsRead : Result (ℕ × List ℕ) ℕ → Type 0
@@ -48,7 +52,9 @@ first_digits b bytes true t low up is = absurd is
 first_digits b bytes false true low up is = absurd is
 first_digits b bytes false false low up is = (digit b low up, all_digits 3 (b - 48) bytes is)
 
-no_error : (b : ℕ) (bytes : List ℕ) (left : ℕ) (s t : Bool) → IsRead (cond s (Err left) (cond t (Err left) (Ok (digits_after 3 (b - 48) bytes)))) → IsRead (cond s (Err (suc 0)) (cond t (Err (suc 0)) (Ok (digits_after 3 (b - 48) bytes))))
+no_error : (b : ℕ) (bytes : List ℕ) (left : ℕ) (s t : Bool)
+    → IsRead (cond s (Err left) (cond t (Err left) (Ok (digits_after 3 (b - 48) bytes))))
+    → IsRead (cond s (Err (suc 0)) (cond t (Err (suc 0)) (Ok (digits_after 3 (b - 48) bytes))))
 no_error b bytes left true t is = is
 no_error b bytes left false true is = is
 no_error b bytes left false false is = is
@@ -85,26 +91,32 @@ grows (suc most) bound = let more = grows most (bound * 10) in omega (arith, mor
 
 step_low : (most high b bound : ℕ) (bytes : List ℕ) (s t : Bool) → nat_lt b 48 ≡ s → nat_lt 57 b ≡ t → high < bound
     → (high * 10 + (b - 48) < bound * 10 → (digits_after most (high * 10 + (b - 48)) bytes).0 < grown most (bound * 10))
-    → (cond s (high, b ∷ bytes) (cond t (high, b ∷ bytes) (digits_after most (high * 10 + (b - 48)) bytes))).0 < grown most (bound * 10)
+    → (cond s (high, b ∷ bytes) (cond t (high, b ∷ bytes) (digits_after most (high * 10 + (b - 48)) bytes))).0 < grown
+    most (bound * 10)
 step_low most high b bound bytes true t low up below more = let g = grows most (bound * 10) in omega (arith, g, below)
-step_low most high b bound bytes false true low up below more = let g = grows most (bound * 10) in omega (arith, g, below)
-step_low most high b bound bytes false false low up below more = let to : b ≤ 57 = ltb-false 57 b up in more (omega (arith, to, below))
+step_low most high b bound bytes false true low up below more = let g = grows most (bound * 10) in
+    omega (arith, g, below)
+step_low most high b bound bytes false false low up below more = let to : b ≤ 57 = ltb-false 57 b up in
+    more (omega (arith, to, below))
 
 digits_low : (most high bound : ℕ) (bytes : List ℕ) → high < bound → (digits_after most high bytes).0 < grown most bound
 unfolding digits_after
 digits_low zero high bound bytes below = below
 digits_low (suc most) high bound [] below = let g = grows most (bound * 10) in omega (arith, g, below)
 digits_low (suc most) high bound (b ∷ bytes) below =
-    step_low most high b bound bytes (nat_lt b 48) (nat_lt 57 b) refl refl below (digits_low most (high * 10 + (b - 48)) (bound * 10) bytes)
+    step_low most high b bound bytes (nat_lt b 48) (nat_lt 57 b) refl refl below (digits_low most (high * 10 + (b - 48))
+    (bound * 10) bytes)
 
 abbrev pub IsLow : Result (ℕ × List ℕ) ℕ → Type 0
 IsLow (Ok x) = x.0 < 10000
 IsLow (Err left) = Unit {0}
 
-first_low : (b left : ℕ) (bytes : List ℕ) (s t : Bool) → nat_lt 57 b ≡ t → IsLow (cond s (Err left) (cond t (Err left) (Ok (digits_after 3 (b - 48) bytes))))
+first_low : (b left : ℕ) (bytes : List ℕ) (s t : Bool) → nat_lt 57 b ≡ t
+    → IsLow (cond s (Err left) (cond t (Err left) (Ok (digits_after 3 (b - 48) bytes))))
 first_low b left bytes true t up = tt
 first_low b left bytes false true up = tt
-first_low b left bytes false false up = let to : b ≤ 57 = ltb-false 57 b up in digits_low 3 (b - 48) 10 bytes (omega (arith, to))
+first_low b left bytes false false up = let to : b ≤ 57 = ltb-false 57 b up in digits_low 3 (b - 48) 10 bytes
+    (omega (arith, to))
 
 number_low : (bytes : List ℕ) → IsLow (number_at 4 bytes)
 unfolding number_at
@@ -127,7 +139,8 @@ release_low w = whole_low (number_at 4 w) (number_low w)
 -- ---- releases that are written
 
 decimal_alone : (r : ℕ) → r < 10000 → number_at 4 (decimal r) ≡ Ok (r, [])
-decimal_alone r low = ap (number_at 4) (sym (append-nil (decimal r))) ∙ number_round_trip 4 r [] (lit< tt) (lit≤ tt) low tt
+decimal_alone r low = ap (number_at 4) (sym (append-nil (decimal r))) ∙ number_round_trip 4 r [] (lit< tt)
+    (lit≤ tt) low tt
 
 pub decimal_digits : (r : ℕ) → r < 10000 → AreDigits (decimal r)
 decimal_digits r low = read_digits (decimal r) (subst IsRead (sym (decimal_alone r low)) refl)

@@ -1,5 +1,6 @@
 -- Bytes without blanks, and releases with a comma between two.
-use Rattle.std.proofs.Common.{◌≡◌, ℕ, ◌<◌, nat_lt, ◌==◌, Bool, true, false, cond, not, ◌&&◌, List, [], ◌∷◌, ◌++◌, append-nil, drop, flat_map, filter, refl, ap, ◌∙◌, arith}
+use Rattle.std.proofs.Common.{◌≡◌, ℕ, ◌<◌, nat_lt, ◌==◌, Bool, true, false, cond, not, ◌&&◌, List, [], ◌∷◌, ◌++◌}
+use Rattle.std.proofs.Common.{append-nil, drop, flat_map, filter, refl, ap, ◌∙◌, arith}
 use Rattle.std.specs.Prelude.{decimal, map}
 use Rattle.std.specs.List.{AllByRecursion, list_all}
 use Rattle.std.proofs.lemmas.Bool.{ltb-true, ne_eqb}
@@ -13,19 +14,23 @@ use Rattle.sccs_base.proofs.Bools.{right_true, left_true}
 
 -- ---- lists
 
-pub all_both : {A : Type 0} (P : A → Type 0) (xs ys : List A) → AllByRecursion P xs → AllByRecursion P ys → AllByRecursion P (xs ++ ys)
+pub all_both : {A : Type 0} (P : A → Type 0) (xs ys : List A) → AllByRecursion P xs → AllByRecursion P ys
+    → AllByRecursion P (xs ++ ys)
 all_both P [] ys front back = back
 all_both P (x ∷ xs) ys front back = (front.0, all_both P xs ys front.1 back)
 
-filtered_by : {A : Type 0} (P : A → Type 0) (b : Bool) (x : A) (rest : List A) → P x → AllByRecursion P rest → AllByRecursion P (cond b (x ∷ rest) rest)
+filtered_by : {A : Type 0} (P : A → Type 0) (b : Bool) (x : A) (rest : List A) → P x → AllByRecursion P rest
+    → AllByRecursion P (cond b (x ∷ rest) rest)
 filtered_by P true x rest here more = (here, more)
 filtered_by P false x rest here more = more
 
-pub all_filtered : {A : Type 0} (P : A → Type 0) (test : A → Bool) (xs : List A) → AllByRecursion P xs → AllByRecursion P (filter test xs)
+pub all_filtered : {A : Type 0} (P : A → Type 0) (test : A → Bool) (xs : List A) → AllByRecursion P xs
+    → AllByRecursion P (filter test xs)
 all_filtered P test [] all = tt
 all_filtered P test (x ∷ xs) all = filtered_by P (test x) x (filter test xs) all.0 (all_filtered P test xs all.1)
 
-pub each : {A : Type 0} (P Q : A → Type 0) → ((x : A) → P x → Q x) → (xs : List A) → AllByRecursion P xs → AllByRecursion Q xs
+pub each : {A : Type 0} (P Q : A → Type 0) → ((x : A) → P x → Q x) → (xs : List A) → AllByRecursion P xs
+    → AllByRecursion Q xs
 each P Q so [] all = tt
 each P Q so (x ∷ xs) all = (so x all.0, each P Q so xs all.1)
 
@@ -51,7 +56,8 @@ visible_ends (b ∷ []) are = no_blank b are.0
 visible_ends (b ∷ c ∷ bytes) are = visible_ends (c ∷ bytes) are.1
 
 -- one word
-one_more : (b c : ℕ) (bytes : List ℕ) → 40 < b → 40 < c → words (c ∷ bytes) ≡ (c ∷ bytes) ∷ [] → words (b ∷ c ∷ bytes) ≡ (b ∷ c ∷ bytes) ∷ []
+one_more : (b c : ℕ) (bytes : List ℕ) → 40 < b → 40 < c → words (c ∷ bytes) ≡ (c ∷ bytes) ∷ []
+    → words (b ∷ c ∷ bytes) ≡ (b ∷ c ∷ bytes) ∷ []
 unfolding words
 one_more b c bytes high next more = rw (no_blank b high, more, no_blank c next) refl
 
@@ -66,13 +72,20 @@ none_empty is = absurd cc
 
 some_word : (w : List ℕ) → is_release w ≡ true → AreVisible w → are_spaced w ≡ true
 some_word [] is are = absurd (none_empty is)
-some_word (b ∷ bytes) is are = rw (visible_begins (b ∷ bytes) are, visible_ends (b ∷ bytes) are, visible_word b bytes are, is) refl
+some_word (b ∷ bytes) is are = rw (
+  visible_begins (b ∷ bytes) are,
+  visible_ends (b ∷ bytes) are,
+  visible_word b bytes are,
+  is,
+) refl
 
 -- a release is a list of one release
 pub release_spaced : (w : List ℕ) → is_release w ≡ true → are_spaced w ≡ true
 release_spaced w is = some_word w is (digits_visible w (release_digits w is))
 
-both_spaced : (a b : Bool) (w : List ℕ) (ws : List (List ℕ)) → is_release w ≡ a → list_all is_release ws ≡ b → (list_all is_release ws ≡ true → list_all are_spaced ws ≡ true) → (a && b) ≡ true → list_all are_spaced (w ∷ ws) ≡ true
+both_spaced : (a b : Bool) (w : List ℕ) (ws : List (List ℕ)) → is_release w ≡ a → list_all is_release ws ≡ b
+    → (list_all is_release ws ≡ true → list_all are_spaced ws ≡ true) → (a && b) ≡ true → list_all are_spaced (w ∷ ws)
+    ≡ true
 both_spaced true true w ws first rest more is = rw (release_spaced w first, more rest) refl
 both_spaced true false w ws first rest more is = absurd cc
 both_spaced false b w ws first rest more is = absurd cc
@@ -107,18 +120,24 @@ abbrev pub AreLow : List ℕ → Type 0
 AreLow rs = AllByRecursion (λ r. r < 10000) rs
 
 -- one behind another
-pub written_releases : (r : ℕ) (rs : List ℕ) → AreReleases (r ∷ rs) → are_releases (decimal r ++ flat_map behind_comma rs) ≡ true
+pub written_releases : (r : ℕ) (rs : List ℕ) → AreReleases (r ∷ rs)
+    → are_releases (decimal r ++ flat_map behind_comma rs) ≡ true
 written_releases r [] are =
     ap (list_all are_spaced) (ap pieces (append-nil (decimal r)) ∙ piece_only (decimal r) (decimal_digits r are.0.0))
     ∙ rw (release_spaced (decimal r) (decimal_release r are.0.0 are.0.1)) refl
 written_releases r (s ∷ rs) are =
-    ap (list_all are_spaced) (piece_first (decimal r) (decimal s ++ flat_map behind_comma rs) (decimal_digits r are.0.0))
+    ap (list_all are_spaced) (piece_first (decimal r) (decimal s ++ flat_map behind_comma rs)
+    (decimal_digits r are.0.0))
     ∙ rw (release_spaced (decimal r) (decimal_release r are.0.0 are.0.1)) (written_releases s rs are.1)
 
 commas_visible : (rs : List ℕ) → AreLow rs → AreVisible (flat_map behind_comma rs)
 commas_visible [] are = tt
 commas_visible (r ∷ rs) are =
-    all_both (λ b. 40 < b) (behind_comma r) (flat_map behind_comma rs) (omega arith, digits_visible (decimal r) (decimal_digits r are.0)) (commas_visible rs are.1)
+    all_both (λ b. 40 < b) (behind_comma r) (flat_map behind_comma rs) (
+      omega arith,
+      digits_visible (decimal r)
+          (decimal_digits r are.0),
+    ) (commas_visible rs are.1)
 
 without_first : {A : Type 0} (P : A → Type 0) (xs : List A) → AllByRecursion P xs → AllByRecursion P (drop 1 xs)
 without_first P [] all = tt
@@ -127,7 +146,8 @@ without_first P (x ∷ xs) all = all.1
 pub joined_visible : (rs : List ℕ) → AreLow rs → AreVisible (with_commas rs)
 joined_visible rs are = without_first (λ b. 40 < b) (flat_map behind_comma rs) (commas_visible rs are)
 
-pub joined_fits : (rs : List ℕ) → AreReleases rs → is_empty (with_commas rs) ≡ false → are_releases (with_commas rs) ≡ true
+pub joined_fits : (rs : List ℕ) → AreReleases rs → is_empty (with_commas rs) ≡ false → are_releases (with_commas rs)
+    ≡ true
 joined_fits [] are some = absurd cc
 joined_fits (r ∷ rs) are some = written_releases r rs are
 
@@ -139,7 +159,8 @@ words_low (w ∷ ws) = (release_low w, words_low ws)
 
 pieces_low : (ps : List (List ℕ)) → AreLow (flat_map releases_in ps)
 pieces_low [] = tt
-pieces_low (p ∷ ps) = all_both (λ r. r < 10000) (releases_in p) (flat_map releases_in ps) (words_low (words p)) (pieces_low ps)
+pieces_low (p ∷ ps) = all_both (λ r. r < 10000) (releases_in p) (flat_map releases_in ps) (words_low (words p))
+    (pieces_low ps)
 
 pub releases_low : (text : List ℕ) → AreLow (releases_of text)
 releases_low text = pieces_low (pieces text)
@@ -149,8 +170,11 @@ some_release n is = ltb-true 0 n is
 
 words_some : (ws : List (List ℕ)) → list_all is_release ws ≡ true → AreReleases (map release_in ws)
 words_some [] is = tt
-words_some (w ∷ ws) is =
-    ((release_low w, some_release (release_in w) (left_true (is_release w) (list_all is_release ws) is)), words_some ws (right_true (is_release w) (list_all is_release ws) is))
+words_some (w ∷ ws) is = (
+  (release_low w, some_release (release_in w) (left_true (is_release w) (list_all is_release ws) is)),
+  words_some ws
+      (right_true (is_release w) (list_all is_release ws) is),
+)
 
 spaced_words : (a b c d : Bool) → (((a && b) && c) && d) ≡ true → d ≡ true
 spaced_words true true true d is = is
@@ -162,7 +186,8 @@ pieces_some : (ps : List (List ℕ)) → list_all are_spaced ps ≡ true → Are
 pieces_some [] is = tt
 pieces_some (p ∷ ps) is =
     all_both (λ r. (r < 10000) × (0 < r)) (releases_in p) (flat_map releases_in ps)
-    (words_some (words p) (spaced_words (not (is_empty p)) (not (begins_blank p)) (not (ends_blank p)) (list_all is_release (words p)) (left_true (are_spaced p) (list_all are_spaced ps) is)))
+    (words_some (words p) (spaced_words (not (is_empty p)) (not (begins_blank p)) (not (ends_blank p))
+    (list_all is_release (words p)) (left_true (are_spaced p) (list_all are_spaced ps) is)))
     (pieces_some ps (right_true (are_spaced p) (list_all are_spaced ps) is))
 
 pub releases_some : (text : List ℕ) → are_releases text ≡ true → AreReleases (releases_of text)
@@ -170,7 +195,8 @@ releases_some text is = pieces_some (pieces text) is
 
 -- ---- blanks at the ends of a text
 
-begins_by : (t : Bool) (b : ℕ) (bytes : List ℕ) → (b == 32) ≡ t → begins_blank (skip_blanks bytes) ≡ false → begins_blank (cond t (skip_blanks bytes) (b ∷ bytes)) ≡ false
+begins_by : (t : Bool) (b : ℕ) (bytes : List ℕ) → (b == 32) ≡ t → begins_blank (skip_blanks bytes) ≡ false
+    → begins_blank (cond t (skip_blanks bytes) (b ∷ bytes)) ≡ false
 begins_by true b bytes is more = more
 begins_by false b bytes is more = is
 
@@ -194,7 +220,8 @@ unfolding drop_blanks ends_blank
 dropped_ends [] = refl
 dropped_ends (b ∷ bytes) = kept_ends b (drop_blanks bytes) (dropped_ends bytes)
 
-ends_by : (t : Bool) (skipped all : List ℕ) → ends_blank skipped ≡ false → ends_blank all ≡ false → ends_blank (cond t skipped all) ≡ false
+ends_by : (t : Bool) (skipped all : List ℕ) → ends_blank skipped ≡ false → ends_blank all ≡ false
+    → ends_blank (cond t skipped all) ≡ false
 ends_by true skipped all more is = more
 ends_by false skipped all more is = is
 
@@ -206,4 +233,5 @@ tail_ends b (c ∷ bytes) is = is
 pub skipped_ends : (bytes : List ℕ) → ends_blank bytes ≡ false → ends_blank (skip_blanks bytes) ≡ false
 unfolding skip_blanks
 skipped_ends [] is = is
-skipped_ends (b ∷ bytes) is = ends_by (b == 32) (skip_blanks bytes) (b ∷ bytes) (skipped_ends bytes (tail_ends b bytes is)) is
+skipped_ends (b ∷ bytes) is = ends_by (b == 32) (skip_blanks bytes) (b ∷ bytes)
+    (skipped_ends bytes (tail_ends b bytes is)) is

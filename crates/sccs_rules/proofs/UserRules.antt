@@ -1,5 +1,6 @@
 -- Users that are added and erased keep what holds of each line.
-use Rattle.std.proofs.Common.{◌≡◌, ◌≢◌, ℕ, ◌==◌, Bool, true, false, cond, not, ◌&&◌, List, [], ◌∷◌, ◌++◌, fold, refl, subst}
+use Rattle.std.proofs.Common.{◌≡◌, ◌≢◌, ℕ, ◌==◌, Bool, true, false, cond, not, ◌&&◌, List, [], ◌∷◌, ◌++◌, fold, refl}
+use Rattle.std.proofs.Common.{subst}
 use Rattle.std.specs.List.{AllByRecursion, list_any}
 use Rattle.std.specs.Str.{bytes_eq}
 use Rattle.std.proofs.lemmas.List.Elements.{All-from_recursion}
@@ -10,21 +11,29 @@ use Rattle.sccs_rules.proofs.Spaced.{all_both, all_filtered}
 use Rattle.std.proofs.lemmas.Bool.{or_parts}
 use Rattle.sccs_base.proofs.Bools.{left_true}
 
-added_by : (P : List ℕ → Type 0) (t : Bool) (users : List (List ℕ)) (name : List ℕ) → (t ≡ true → P name) → AllByRecursion P users → AllByRecursion P (cond t (users ++ name ∷ []) users)
+added_by : (P : List ℕ → Type 0) (t : Bool) (users : List (List ℕ)) (name : List ℕ) → (t ≡ true → P name)
+    → AllByRecursion P users → AllByRecursion P (cond t (users ++ name ∷ []) users)
 added_by P true users name line all = all_both P users (name ∷ []) all (line refl, tt)
 added_by P false users name line all = all
 
-user_added : (P : List ℕ → Type 0) → ((name : List ℕ) → is_own_line name ≡ true → P name) → (users : List (List ℕ)) (name : List ℕ) → AllByRecursion P users → AllByRecursion P (with_user users name)
+user_added : (P : List ℕ → Type 0) → ((name : List ℕ) → is_own_line name ≡ true → P name) → (users : List (List ℕ))
+    (name : List ℕ) → AllByRecursion P users → AllByRecursion P (with_user users name)
 user_added P line users name all =
-    added_by P (is_own_line name && not (list_any (bytes_eq name) users)) users name (λ is. line name (left_true (is_own_line name) (not (list_any (bytes_eq name) users)) is)) all
+    added_by P (is_own_line name && not (list_any (bytes_eq name) users)) users name
+    (λ is. line name (left_true (is_own_line name) (not (list_any (bytes_eq name) users)) is)) all
 
-users_added : (P : List ℕ → Type 0) → ((name : List ℕ) → is_own_line name ≡ true → P name) → (users names : List (List ℕ)) → AllByRecursion P users → AllByRecursion P (fold with_user users names)
+users_added : (P : List ℕ → Type 0) → ((name : List ℕ) → is_own_line name ≡ true → P name)
+    → (users names : List (List ℕ)) → AllByRecursion P users → AllByRecursion P (fold with_user users names)
 users_added P line users [] all = all
-users_added P line users (name ∷ names) all = users_added P line (with_user users name) names (user_added P line users name all)
+users_added P line users (name ∷ names) all = users_added P line (with_user users name) names
+    (user_added P line users name all)
 
-pub users_changed : (P : List ℕ → Type 0) → ((name : List ℕ) → is_own_line name ≡ true → P name) → (users added erased : List (List ℕ)) → AllByRecursion P users → AllByRecursion P (changed_users users added erased)
+pub users_changed : (P : List ℕ → Type 0) → ((name : List ℕ) → is_own_line name ≡ true → P name)
+    → (users added erased : List (List ℕ)) → AllByRecursion P users
+    → AllByRecursion P (changed_users users added erased)
 users_changed P line users added erased all =
-    all_filtered P (λ user. not (list_any (bytes_eq user) erased)) (fold with_user users added) (users_added P line users added all)
+    all_filtered P (λ user. not (list_any (bytes_eq user) erased)) (fold with_user users added)
+    (users_added P line users added all)
 
 -- ---- lines
 

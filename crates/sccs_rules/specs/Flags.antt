@@ -1,5 +1,6 @@
 -- The flags of a file, with some set and others removed: POSIX, admin -f and -d.
-use Rattle.std.specs.Prelude.{◌≡◌, ℕ, ◌==◌, Bool, false, not, ◌&&◌, ◌||◌, List, [], ◌∷◌, Option, None, Some, Result, Ok, Err, if◌then◌else◌}
+use Rattle.std.specs.Prelude.{◌≡◌, ℕ, ◌==◌, Bool, false, not, ◌&&◌, ◌||◌, List, [], ◌∷◌, Option, None, Some, Result, Ok}
+use Rattle.std.specs.Prelude.{Err, if◌then◌else◌}
 use Rattle.std.specs.List.{list_any}
 use Rattle.sccs_sid.specs.Reading.{◌>>=◌, is_empty}
 use Rattle.sccs_history.specs.FlagText.{flag_l, is_all}

@@ -1,9 +1,11 @@
 -- The table of flags: which letters there are, and what the text of each may be. POSIX, admin -f; sccsfile(4), "Flags".
-use Rattle.std.specs.Prelude.{ℕ, ◌==◌, Bool, true, false, not, ◌&&◌, ◌||◌, List, [], ◌∷◌, Option, None, Some, find, is_some, option_map}
+use Rattle.std.specs.Prelude.{ℕ, ◌==◌, Bool, true, false, not, ◌&&◌, ◌||◌, List, [], ◌∷◌, Option, None, Some, find}
+use Rattle.std.specs.Prelude.{is_some, option_map}
 use Rattle.std.specs.List.{list_all}
 use Rattle.sccs_sid.specs.Reading.{is_empty}
 use Rattle.sccs_sid.specs.Words.{drop_blanks, skip_blanks}
-use Rattle.sccs_history.specs.FlagText.{flag_b, flag_c, flag_d, flag_f, flag_i, flag_j, flag_l, flag_m, flag_n, flag_q, flag_t, flag_v, is_all, is_any_sid, is_release, pieces}
+use Rattle.sccs_history.specs.FlagText.{flag_b, flag_c, flag_d, flag_f, flag_i, flag_j, flag_l, flag_m, flag_n, flag_q}
+use Rattle.sccs_history.specs.FlagText.{flag_t, flag_v, is_all, is_any_sid, is_release, pieces}
 use Rattle.sccs_rules.specs.Users.{has_lf}
 use Rattle.sccs_rules.specs.declared.forms.FlagRow.{FlagRow}
 use Rattle.sccs_rules.specs.declared.forms.Form.{Form}

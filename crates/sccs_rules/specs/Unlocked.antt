@@ -1,5 +1,6 @@
 -- The text of flag l without some releases: POSIX, admin -d, `lLIST`.
-use Rattle.std.specs.Prelude.{ℕ, ◌==◌, Bool, not, List, ◌∷◌, decimal, drop, filter, flat_map, map, unwrap_or, if◌then◌else◌}
+use Rattle.std.specs.Prelude.{ℕ, ◌==◌, Bool, not, List, ◌∷◌, decimal, drop, filter, flat_map, map, unwrap_or}
+use Rattle.std.specs.Prelude.{if◌then◌else◌}
 use Rattle.std.specs.List.{list_any}
 use Rattle.sccs_sid.specs.Reading.{number}
 use Rattle.sccs_sid.specs.Words.{words}

@@ -1,7 +1,9 @@
 ghost use Rattle.std.specs.Prelude.{◌≡◌, ◌==◌, IfOk, position};
 ghost use Rattle.std.specs.Option.{option_copied};
 ghost use Rattle.sccs_flags.specs.FlagValues.{flag_of};
-ghost use Rattle.sccs_rules.specs.Flags.{ChangesFlags, changed_flags, flag_with, by_words, locks_all, may_remove, may_unlock, put_unlocked, remove_word, set_word, sets_flag, sets_letter, unlock_in, with_flag, without_flag, without_word};
+ghost use Rattle.sccs_rules.specs.Flags.{ChangesFlags, changed_flags, flag_with, by_words, locks_all, may_remove};
+ghost use Rattle.sccs_rules.specs.Flags.{may_unlock, put_unlocked, remove_word, set_word, sets_flag, sets_letter};
+ghost use Rattle.sccs_rules.specs.Flags.{unlock_in, with_flag, without_flag, without_word};
 
 use crate::forms::{are_joined, is_all, is_flag, letter_of, may_set, text_in};
 use crate::releases::unlocked;

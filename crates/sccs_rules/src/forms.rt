@@ -2,7 +2,8 @@ ghost use Rattle.std.specs.Prelude.{◌≡◌};
 ghost use Rattle.sccs_sid.specs.Reading.{is_empty};
 ghost use Rattle.sccs_sid.specs.Words.{drop_blanks, skip_blanks};
 ghost use Rattle.sccs_history.specs.FlagText.{is_all, is_any_sid, is_release};
-ghost use Rattle.sccs_rules.specs.Forms.{are_joined, fits_form, flag_form, is_flag, word_letter, may_set, flag_rows, word_text};
+ghost use Rattle.sccs_rules.specs.Forms.{are_joined, fits_form, flag_form, is_flag, word_letter, may_set, flag_rows};
+ghost use Rattle.sccs_rules.specs.Forms.{word_text};
 ghost use Rattle.sccs_rules.specs.Users.{has_lf};
 
 use crate::users::has_lf;

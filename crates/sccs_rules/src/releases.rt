@@ -1,6 +1,7 @@
 ghost use Rattle.std.specs.Prelude.{◌≡◌, [], ◌∷◌, ◌++◌, IfOk, OnOk, drop, flat_map};
 ghost use Rattle.std.specs.List.{list_any};
-ghost use Rattle.sccs_rules.specs.Unlocked.{behind_comma, is_among, left_of, release_in, releases_in, releases_of, without_releases};
+ghost use Rattle.sccs_rules.specs.Unlocked.{behind_comma, is_among, left_of, release_in, releases_in, releases_of};
+ghost use Rattle.sccs_rules.specs.Unlocked.{without_releases};
 
 use itoa::Buffer;
 use sccs_base::{Line, Memory};
@@ -72,7 +73,8 @@ fn push_behind_comma(text: &mut Vec<u8>, release: u32) -> Result<(), Memory>
 
 // puts a release behind a text, unless it is among others
 fn push_unless_among(text: &mut Vec<u8>, others: &[u32], release: u32) -> Result<(), Memory>
-    ensures { OnOk result (text.new.items ≡ text.old.items ++ flat_map behind_comma (left_of others.now (release ∷ []))) }
+    ensures { OnOk result (text.new.items ≡ text.old.items ++ flat_map behind_comma
+        (left_of others.now (release ∷ []))) }
 {
     if is_among(others, release) {
         return Ok(());

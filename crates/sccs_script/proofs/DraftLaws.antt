@@ -1,5 +1,6 @@
 -- The base line that new lines follow.
-use Rattle.std.proofs.Common.{◌≡◌, ℕ, zero, suc, ◌+◌, ◌-◌, List, [], ◌∷◌, ◌++◌, Result, Ok, Err, IfOk, map, refl, ap, ◌∙◌, arith}
+use Rattle.std.proofs.Common.{◌≡◌, ℕ, zero, suc, ◌+◌, ◌-◌, List, [], ◌∷◌, ◌++◌, Result, Ok, Err, IfOk, map, refl, ap}
+use Rattle.std.proofs.Common.{◌∙◌, arith}
 use Rattle.sccs_script.specs.Drafts.{anchor_from, DraftLine, expand, Fresh, IsPiece, Kept, span}
 use Rattle.sccs_script.specs.declared.pieces.Piece.{Piece}
 use Rattle.sccs_script.specs.declared.pieces.Piece.TheVariants as pieces
@@ -26,6 +27,7 @@ anchor_piece k (pieces.Kept first last) fits =
 anchor_piece k (pieces.Fresh after line) fits = refl
 
 -- three things that hold of what was answered
-pub if_three : {A E : Type 0} (r : Result A E) (P Q R S : A → Type 0) → ((a : A) → P a → Q a → R a → S a) → IfOk r P → IfOk r Q → IfOk r R → IfOk r S
+pub if_three : {A E : Type 0} (r : Result A E) (P Q R S : A → Type 0) → ((a : A) → P a → Q a → R a → S a) → IfOk r P
+    → IfOk r Q → IfOk r R → IfOk r S
 if_three (Ok a) P Q R S joined one two three = joined a one two three
 if_three (Err e) P Q R S joined one two three = tt

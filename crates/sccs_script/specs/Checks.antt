@@ -1,5 +1,6 @@
 -- Which scripts fit a text of so many lines.
-use Rattle.std.specs.Prelude.{◌≡◌, ℕ, suc, ◌+◌, ◌-◌, nat_lt, false, List, [], ◌∷◌, length, Option, None, Some, Result, Ok, Err, if◌then◌else◌}
+use Rattle.std.specs.Prelude.{◌≡◌, ℕ, suc, ◌+◌, ◌-◌, nat_lt, false, List, [], ◌∷◌, length, Option, None, Some, Result}
+use Rattle.std.specs.Prelude.{Ok, Err, if◌then◌else◌}
 use Rattle.std.specs.List.{AllByRecursion}
 use Rattle.sccs_base.specs.Cut.{HasNoLf}
 use Rattle.sccs_sid.specs.SidLists.{begins}
@@ -21,7 +22,8 @@ length_after order lines = length_by order.kind order.first order.last (length o
 -- the first order that names a line past the text that it begins with, and how long that is
 abbrev pub ranged : List Order → ℕ → Result (Unit {0}) ScriptFault
 ranged [] lines = Ok tt
-ranged (order ∷ orders) lines = if nat_lt lines order.last then Err (ScriptRange order.line lines) else ranged orders (length_after order lines)
+ranged (order ∷ orders) lines = if nat_lt lines order.last then Err (ScriptRange order.line lines)
+    else ranged orders (length_after order lines)
 
 -- the first line that begins with SOH, where the line before has this number
 abbrev pub bad_line : ℕ → List (List ℕ) → Option ℕ

@@ -1,5 +1,6 @@
 -- How a script is read, line by line (POSIX ed).
-use Rattle.std.specs.Prelude.{◌≡◌, ◌<◌, ◌≤◌, ◌+◌, ℕ, suc, nat_le, nat_lt, ◌==◌, Bool, true, false, not, ◌&&◌, ◌||◌, List, [], ◌∷◌, ◌++◌, drop, length, Option, None, Some, Result, Ok, Err, if◌then◌else◌}
+use Rattle.std.specs.Prelude.{◌≡◌, ◌<◌, ◌≤◌, ◌+◌, ℕ, suc, nat_le, nat_lt, ◌==◌, Bool, true, false, not, ◌&&◌, ◌||◌}
+use Rattle.std.specs.Prelude.{List, [], ◌∷◌, ◌++◌, drop, length, Option, None, Some, Result, Ok, Err, if◌then◌else◌}
 use Rattle.sccs_base.specs.Cut.{text_of}
 use Rattle.sccs_sid.specs.Reading.{is_empty, number_at, only}
 use Rattle.sccs_sid.specs.SidLists.{begins}
@@ -50,14 +51,17 @@ at_line first kind = only (is_append kind || nat_lt 0 first) (record { kind = ki
 
 -- a first and a last line are named, which are replaced or taken away
 abbrev pub at_lines : ℕ → ℕ → OrderKind → Option Command
-at_lines first last kind = only (not (is_append kind) && (nat_lt 0 first && nat_le first last)) (record { kind = kind; first = first; last = last })
+at_lines first last kind = only (not (is_append kind) && (nat_lt 0 first && nat_le first last))
+    (record { kind = kind; first = first; last = last })
 
 unfoldable pub to_last : ℕ → List ℕ → Option Command
-to_last first bytes = then_read (line_number_at bytes) (λ last. then_read (command_letter last.1) (λ kind. at_lines first last.0 kind))
+to_last first bytes = then_read (line_number_at bytes) (λ last. then_read (command_letter last.1)
+    (λ kind. at_lines first last.0 kind))
 
 -- behind the first number: a letter, or a comma, a second number and a letter
 unfoldable pub after_first_number : ℕ → List ℕ → Option Command
-after_first_number first bytes = if begins 44 bytes then to_last first (drop 1 bytes) else then_read (command_letter bytes) (λ kind. at_line first kind)
+after_first_number first bytes = if begins 44 bytes then to_last first (drop 1 bytes)
+    else then_read (command_letter bytes) (λ kind. at_line first kind)
 
 -- what a command line says
 unfoldable pub script_command : List ℕ → Option Command
@@ -116,7 +120,8 @@ at_end orders (Some order) = Err (BadScript order.line)
 unfoldable pub orders_from : List Order → Option Order → ℕ → List (List ℕ) → Result (List Order) ScriptFault
 orders_from orders text count [] = at_end orders text
 orders_from orders text count (line ∷ lines) =
-    unless_bad (turn_at text (suc count) line) (orders_from (whole_in orders (turn_at text (suc count) line)) (open_in (turn_at text (suc count) line)) (suc count) lines)
+    unless_bad (turn_at text (suc count) line) (orders_from (whole_in orders (turn_at text (suc count) line))
+    (open_in (turn_at text (suc count) line)) (suc count) lines)
 
 -- The orders of a script, or the line of the first command that isn't one or whose text isn't ended.
 abbrev pub orders_of : List ℕ → Result (List Order) ScriptFault

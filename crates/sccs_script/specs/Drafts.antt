@@ -1,5 +1,6 @@
 -- A text while orders are made on it, by what stands in it.
-use Rattle.std.specs.Prelude.{◌≡◌, ◌<◌, ◌≤◌, ℕ, zero, suc, ◌-◌, ◌==◌, false, List, [], ◌∷◌, ◌++◌, map, take, drop, if◌then◌else◌}
+use Rattle.std.specs.Prelude.{◌≡◌, ◌<◌, ◌≤◌, ℕ, zero, suc, ◌-◌, ◌==◌, false, List, [], ◌∷◌, ◌++◌, map, take, drop}
+use Rattle.std.specs.Prelude.{if◌then◌else◌}
 use Rattle.sccs_script_laws.specs.Plans.{with_added}
 use Rattle.sccs_script_laws.specs.declared.scripts.Added.{Added}
 use Rattle.sccs_script_laws.specs.declared.scripts.Order.{Order}
@@ -62,7 +63,8 @@ missing next (Fresh n text ∷ entries) bound = missing next entries bound
 abbrev pub grouped : ℕ → List (List ℕ) → List DraftLine → List Added
 grouped k texts [] = with_added k texts []
 grouped k texts (Kept n ∷ entries) = with_added k texts (grouped n [] entries)
-grouped k texts (Fresh n text ∷ entries) = if n == k then grouped k (texts ++ text ∷ []) entries else with_added k texts (grouped n (text ∷ []) entries)
+grouped k texts (Fresh n text ∷ entries) = if n == k then grouped k (texts ++ text ∷ []) entries else with_added k texts
+    (grouped n (text ∷ []) entries)
 
 -- the plan of what stands in the text at the end
 abbrev pub draft_plan : List DraftLine → ℕ → Plan

@@ -11,10 +11,16 @@ use Rattle.sccs_script.specs.Trees.{tree_lines, IsTree}
 -- a piece has an entry
 some_entry : (p : Piece) → IsPiece p → 0 < length (expand p)
 some_entry (pieces.Kept first last) fits =
-    let more : suc last - first ≡ suc (last - first) = omega (arith, fits.1) in subst (λ n. 0 < length (map Kept (span first n))) (sym more) (omega arith)
+    let more : suc last - first ≡ suc (last - first) = omega (arith, fits.1) in
+    subst (λ n. 0 < length (map Kept (span first n))) (sym more) (omega arith)
 some_entry (pieces.Fresh after line) fits = omega arith
 
 pub sides_fall : (n : Node) → IsTree n → max (deep-Node n) 0 ≤ length (tree_lines n)
 sides_fall Leaf fits = omega arith
 sides_fall (Fork f) fits =
-    omega (arith, some_entry f.value.piece fits.0, length-append f.value.left (expand f.value.piece ++ f.value.right), length-append (expand f.value.piece) f.value.right)
+    omega (
+      arith,
+      some_entry f.value.piece fits.0,
+      length-append f.value.left (expand f.value.piece ++ f.value.right),
+      length-append (expand f.value.piece) f.value.right,
+    )

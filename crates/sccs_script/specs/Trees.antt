@@ -12,4 +12,5 @@ tree_lines (Fork f) = f.value.left ++ (expand f.value.piece ++ f.value.right)
 -- the piece is one, and the lines are counted
 abbrev pub IsTree : Node → Type 0
 IsTree Leaf = Unit {0}
-IsTree (Fork f) = IsPiece f.value.piece × (f.value.lines ≡ length (f.value.left ++ (expand f.value.piece ++ f.value.right)))
+IsTree (Fork f) = IsPiece f.value.piece
+    × (f.value.lines ≡ length (f.value.left ++ (expand f.value.piece ++ f.value.right)))

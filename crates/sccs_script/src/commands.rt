@@ -1,5 +1,6 @@
 ghost use Rattle.std.specs.Prelude.{◌≡◌, ◌≤◌, length, option_map, IfSome};
-ghost use Rattle.sccs_script.specs.Commands.{at_line, at_lines, after_first_number, script_command, HasNumbers, is_append, is_end_of_text, command_letter, line_number_at, to_last};
+ghost use Rattle.sccs_script.specs.Commands.{at_line, at_lines, after_first_number, script_command, HasNumbers};
+ghost use Rattle.sccs_script.specs.Commands.{is_append, is_end_of_text, command_letter, line_number_at, to_last};
 
 use sccs_script_laws::OrderKind;
 use sccs_sid::reading::wide_number_at;

@@ -1,6 +1,7 @@
 ghost use Rattle.std.specs.Prelude.{◌≡◌, ◌-◌, ◌∷◌, ◌++◌, drop, map, take, IfOk};
 ghost use Rattle.std.specs.List.{AllByRecursion};
-ghost use Rattle.sccs_script.specs.Drafts.{anchor, draft_base, edit, edited_draft, Fresh, IsPiece, IsWithinBase, unstacked};
+ghost use Rattle.sccs_script.specs.Drafts.{anchor, draft_base, edit, edited_draft, Fresh, IsPiece, IsWithinBase};
+ghost use Rattle.sccs_script.specs.Drafts.{unstacked};
 
 use crate::copies::copy_line;
 use crate::pieces::Piece;

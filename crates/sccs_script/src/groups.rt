@@ -54,7 +54,8 @@ impl Groups {
     // one more line behind a base line
     fn add_line(self, alloc: Global, after: u64, line: Line) -> Result<Groups, Memory>
         ensures { IfOk result (λ g. (rest : List DraftLine)
-            → g.done ++ grouped g.after g.lines rest ≡ self.done ++ grouped self.after self.lines (Fresh after line ∷ rest)) }
+            → g.done ++ grouped g.after g.lines rest ≡ self.done ++ grouped self.after self.lines
+            (Fresh after line ∷ rest)) }
     {
         let mut groups = if after == self.after {
             self
@@ -69,7 +70,8 @@ impl Groups {
     pub fn add(self, alloc: Global, piece: Piece) -> Result<Groups, Memory>
         requires { IsPiece piece }
         ensures { IfOk result (λ g. (rest : List DraftLine)
-            → g.done ++ grouped g.after g.lines rest ≡ self.done ++ grouped self.after self.lines (expand piece ++ rest)) }
+            → g.done ++ grouped g.after g.lines rest ≡ self.done ++ grouped self.after self.lines
+            (expand piece ++ rest)) }
     {
         match piece {
             Piece::Kept(_, last) => self.end(alloc, last),

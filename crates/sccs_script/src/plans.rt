@@ -2,7 +2,8 @@ ghost use Rattle.std.specs.Prelude.{◌≡◌, ◌≤◌, ◌++◌, ◌-◌, suc
 ghost use Rattle.std.specs.List.{AllByRecursion};
 ghost use Rattle.sccs_script_laws.specs.Plans.{IsInOrder, plan};
 ghost use Rattle.sccs_script.specs.Checks.{checked_script};
-ghost use Rattle.sccs_script.specs.Drafts.{DraftLine, expand, IsPiece, IsWithinBase, missing, draft_plan, span, unstacked};
+ghost use Rattle.sccs_script.specs.Drafts.{DraftLine, expand, IsPiece, IsWithinBase, missing, draft_plan, span};
+ghost use Rattle.sccs_script.specs.Drafts.{unstacked};
 
 use crate::drafts::edited;
 use crate::groups::Groups;

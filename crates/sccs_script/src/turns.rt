@@ -1,5 +1,6 @@
 ghost use Rattle.std.specs.Prelude.{◌≡◌, ◌+◌, IfOk, IfSome};
-ghost use Rattle.sccs_script.specs.Commands.{begun_order, script_command, FitsIn, HasNumbers, is_end_of_text, order_of, turn_at, TurnFits, with_line};
+ghost use Rattle.sccs_script.specs.Commands.{begun_order, script_command, FitsIn, HasNumbers, is_end_of_text, order_of};
+ghost use Rattle.sccs_script.specs.Commands.{turn_at, TurnFits, with_line};
 
 use crate::commands::{Command, command_of, is_dot};
 use crate::copies::push_copy;

@@ -48,7 +48,8 @@ spliced p n told = block n (added_after 0 p.added) ++ spread p n false 0 told
 -- the items behind others, each with whether it is a line that the set shows
 abbrev pub told_behind : List ℕ → List Item → List Item → List (Item × Bool)
 told_behind set before [] = []
-told_behind set before (Text text ∷ items) = (Text text, shows set (line_at before text)) ∷ told_behind set (Text text ∷ before) items
+told_behind set before (Text text ∷ items) = (Text text, shows set (line_at before text)) ∷ told_behind set
+    (Text text ∷ before) items
 told_behind set before (Insert m ∷ items) = (Insert m, false) ∷ told_behind set (Insert m ∷ before) items
 told_behind set before (Delete m ∷ items) = (Delete m, false) ∷ told_behind set (Delete m ∷ before) items
 told_behind set before (End m ∷ items) = (End m, false) ∷ told_behind set (End m ∷ before) items

@@ -1,5 +1,6 @@
 -- What a script does to a base by the numbers of its lines, and to the lines of a history by such a plan.
-use Rattle.std.specs.Prelude.{ℕ, suc, ◌+◌, ◌≤◌, ◌==◌, Bool, true, false, not, List, [], ◌∷◌, ◌++◌, length, map, replicate, if◌then◌else◌}
+use Rattle.std.specs.Prelude.{ℕ, suc, ◌+◌, ◌≤◌, ◌==◌, Bool, true, false, not, List, [], ◌∷◌, ◌++◌, length, map}
+use Rattle.std.specs.Prelude.{replicate, if◌then◌else◌}
 use Rattle.sccs_history.specs.Numbers.{front_if, has}
 use Rattle.sccs_history.specs.Body.{HistoryLine}
 use Rattle.sccs_script_laws.specs.Scripts.{run}
@@ -45,7 +46,11 @@ added_from k texts (New text ∷ cells) = added_from k (texts ++ text ∷ []) ce
 
 -- the plan of a script for a base of so many lines
 abbrev pub plan : List Order → ℕ → Plan
-plan orders count = record { deleted = deleted_from 0 (cells_of orders count); added = added_from 0 [] (cells_of orders count) }
+plan orders count = record {
+  deleted = deleted_from 0 (cells_of orders count);
+  added =
+      added_from 0 [] (cells_of orders count);
+}
 
 -- the lines added directly after base line k, or before all where k is 0
 abbrev pub added_after : ℕ → List Added → List (List ℕ)
@@ -64,7 +69,8 @@ added_lines p n k = map (new_line n) (added_after k p.added)
 abbrev pub planted_from : (HistoryLine → Bool) → Plan → ℕ → ℕ → List HistoryLine → List HistoryLine
 planted_from seen p n k [] = []
 planted_from seen p n k (line ∷ lines) =
-    if seen line then struck_line p n (suc k) line ∷ (added_lines p n (suc k) ++ planted_from seen p n (suc k) lines) else line ∷ planted_from seen p n k lines
+    if seen line then struck_line p n (suc k) line ∷ (added_lines p n (suc k) ++ planted_from seen p n (suc k) lines)
+    else line ∷ planted_from seen p n k lines
 
 -- The lines of a history with those of a plan: the serial is among the deleters of the visible lines that the plan
 -- deletes, and new lines of the serial stand directly after their visible line, or before all.

@@ -15,20 +15,25 @@ put_after seen (suc k) new (line ∷ lines) = line ∷ put_after seen (if seen l
 abbrev pub take_away : {A : Type 0} → (A → Bool) → (A → List A) → ℕ → ℕ → List A → List A
 take_away seen gone k zero lines = lines
 take_away seen gone k (suc count) [] = []
-take_away seen gone (suc k) (suc count) (line ∷ lines) = line ∷ take_away seen gone (if seen line then k else suc k) (suc count) lines
+take_away seen gone (suc k) (suc count) (line ∷ lines) = line ∷ take_away seen gone (if seen line then k else suc k)
+    (suc count) lines
 take_away seen gone zero (suc count) (line ∷ lines) =
-    (if seen line then gone line else line ∷ []) ++ take_away seen gone zero (if seen line then count else suc count) lines
+    (if seen line then gone line else line ∷ []) ++ take_away seen gone zero (if seen line then count else suc count)
+    lines
 
 -- one order: a change is a deletion, and then new lines after the line before
-abbrev pub step : {A : Type 0} → (A → Bool) → (A → List A) → (List ℕ → A) → OrderKind → ℕ → ℕ → List (List ℕ) → List A → List A
+abbrev pub step : {A : Type 0} → (A → Bool) → (A → List A) → (List ℕ → A) → OrderKind → ℕ → ℕ → List (List ℕ) → List A
+    → List A
 step seen gone made Append first last new lines = put_after seen first (map made new) lines
 step seen gone made Delete first last new lines = take_away seen gone (first - 1) (last - (first - 1)) lines
-step seen gone made Change first last new lines = put_after seen (first - 1) (map made new) (take_away seen gone (first - 1) (last - (first - 1)) lines)
+step seen gone made Change first last new lines = put_after seen (first - 1) (map made new)
+    (take_away seen gone (first - 1) (last - (first - 1)) lines)
 
 -- the orders in turn, each on the lines that the one before left
 abbrev pub run : {A : Type 0} → (A → Bool) → (A → List A) → (List ℕ → A) → List Order → List A → List A
 run seen gone made [] lines = lines
-run seen gone made (order ∷ orders) lines = run seen gone made orders (step seen gone made order.kind order.first order.last order.lines lines)
+run seen gone made (order ∷ orders) lines = run seen gone made orders
+    (step seen gone made order.kind order.first order.last order.lines lines)
 
 -- the orders on a text, where each line is seen and a deleted one is gone
 abbrev pub apply : List Order → List (List ℕ) → List (List ℕ)

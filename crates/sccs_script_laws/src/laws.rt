@@ -38,8 +38,10 @@ pub fn counted_by_plan()
         → inserted n (weave set n orders lines) ≡ added_count (plan orders (length (select set lines))).added }
     ensures deleted { (set : List ℕ) (n : ℕ) (orders : List Order) (lines : List HistoryLine) → AreBelow n lines
         → deleted n (weave set n orders lines) ≡ length (plan orders (length (select set lines))).deleted }
-    ensures unchanged { (set : List ℕ) (n : ℕ) (orders : List Order) (lines : List HistoryLine) → AreBelow n lines → has set n ≡ false
-        → unchanged set n (weave set n orders lines) + length (plan orders (length (select set lines))).deleted ≡ length (select set lines) }
+    ensures unchanged { (set : List ℕ) (n : ℕ) (orders : List Order) (lines : List HistoryLine) → AreBelow n lines
+        → has set n ≡ false
+        → unchanged set n (weave set n orders lines) + length (plan orders (length (select set lines))).deleted ≡ length
+        (select set lines) }
 {}
 
 /// The items of a new delta: their lines are the woven ones, its set shows what the script makes of
@@ -62,10 +64,13 @@ pub fn placed_items()
 pub fn orders_on_texts()
     ensures appends { (order : Order) (text : List (List ℕ)) → order.kind ≡ Append → order.first ≤ length text
         → apply (order ∷ []) text ≡ take order.first text ++ (order.lines ++ drop order.first text) }
-    ensures deletes { (order : Order) (text : List (List ℕ)) → order.kind ≡ Delete → 0 < order.first → order.first ≤ order.last
+    ensures deletes { (order : Order) (text : List (List ℕ)) → order.kind ≡ Delete → 0 < order.first
+        → order.first ≤ order.last
         → apply (order ∷ []) text ≡ take (order.first - 1) text ++ drop order.last text }
-    ensures changes { (order : Order) (text : List (List ℕ)) → order.kind ≡ Change → 0 < order.first → order.first ≤ order.last
+    ensures changes { (order : Order) (text : List (List ℕ)) → order.kind ≡ Change → 0 < order.first
+        → order.first ≤ order.last
         → order.last ≤ length text
         → apply (order ∷ []) text ≡ take (order.first - 1) text ++ (order.lines ++ drop order.last text) }
-    ensures turns { (orders more : List Order) (text : List (List ℕ)) → apply (orders ++ more) text ≡ apply more (apply orders text) }
+    ensures turns { (orders more : List Order) (text : List (List ℕ)) → apply (orders ++ more) text ≡ apply more
+        (apply orders text) }
 {}

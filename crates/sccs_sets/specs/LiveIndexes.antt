@@ -21,4 +21,5 @@ place_of sid = (sid.release, sid.level, sid.branch, if sid.branch == 0 then 0 el
 -- at the place of each SID stands the one live delta that the range of this SID names, or none
 abbrev pub HasDeltas : LiveIndex → List Record → Type 0
 HasDeltas index records =
-    (sid : Sid) → option_to_list (get four_cmp index.deltas (place_of sid)) ≡ map sid_named (live_where (in_range (single sid)) records)
+    (sid : Sid) → option_to_list (get four_cmp index.deltas (place_of sid)) ≡ map sid_named
+    (live_where (in_range (single sid)) records)

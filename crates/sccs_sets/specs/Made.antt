@@ -1,6 +1,8 @@
--- The SID that a delta on a version is to have (POSIX, get -e, "SID to be made"). That the SIDs of pending deltas count, and
+-- The SID that a delta on a version is to have (POSIX, get -e, "SID to be made"). That the SIDs of pending deltas
+-- count, and
 -- how, is own.
-use Rattle.std.specs.Prelude.{ℕ, ◌+◌, ◌==◌, nat_lt, max, Bool, not, ◌&&◌, ◌||◌, List, Option, None, Some, option_map, option_and_then, unwrap_or, map, filter, if◌then◌else◌}
+use Rattle.std.specs.Prelude.{ℕ, ◌+◌, ◌==◌, nat_lt, max, Bool, not, ◌&&◌, ◌||◌, List, Option, None, Some, option_map}
+use Rattle.std.specs.Prelude.{option_and_then, unwrap_or, map, filter, if◌then◌else◌}
 use Rattle.std.specs.List.{list_any, reduce}
 use Rattle.sccs_sid.specs.declared.sids.Sid.{Sid}
 use Rattle.sccs_sid.specs.declared.sids.Spec.{Spec}
@@ -34,7 +36,8 @@ reserved_branch reserved got = reduce max (map (λ s. s.branch) (filter (is_besi
 
 -- the greatest branch that is taken there, 0 where none is
 abbrev pub taken_branch : List Record → List Sid → Sid → ℕ
-taken_branch records reserved got = max (unwrap_or (live_branch records got) 0) (unwrap_or (reserved_branch reserved got) 0)
+taken_branch records reserved got = max (unwrap_or (live_branch records got) 0)
+    (unwrap_or (reserved_branch reserved got) 0)
 
 -- the next component, at most 9999
 abbrev pub next : ℕ → Option ℕ
@@ -45,7 +48,8 @@ abbrev pub next_level : Sid → Option Sid
 next_level got = option_map (λ level. trunk_sid got.release level) (next got.level)
 
 abbrev pub next_on_trunk : Sid → Option Spec → Option Sid
-next_on_trunk got (Some (Release release)) = if nat_lt got.release release then Some (trunk_sid release 1) else next_level got
+next_on_trunk got (Some (Release release)) = if nat_lt got.release release then Some (trunk_sid release 1)
+    else next_level got
 next_on_trunk got spec = next_level got
 
 -- the next one on the line of a SID
@@ -59,14 +63,17 @@ abbrev pub on_new_branch : List Record → List Sid → Sid → Option Sid
 on_new_branch records reserved got =
     option_map (λ number. branch_sid got.release got.level number 1) (next (taken_branch records reserved got))
 
--- The SID to be made on the SID got, where a SID or a front of one is given or not, and a branch is asked for or not: the next
+-- The SID to be made on the SID got, where a SID or a front of one is given or not, and a branch is asked for or not:
+-- the next
 -- one on its line where no branch is asked for and no SID that is taken comes after it there, else the first of a new
 -- branch. None where a component would pass 9999.
 abbrev pub made_on : List Record → List Sid → Sid → Option Spec → Bool → Option Sid
 made_on records reserved got spec branch =
-    if branch || is_taken records reserved (comes_after got) then on_new_branch records reserved got else next_on_line got spec
+    if branch || is_taken records reserved (comes_after got) then on_new_branch records reserved got
+    else next_on_line got spec
 
 -- the same on a live delta of a table; asking for a branch counts where the flag b is set
 abbrev pub to_be_made : Header → List Sid → ℕ → Option Spec → Bool → Option Sid
 to_be_made header reserved got spec branch =
-    option_and_then (λ on. made_on header.records reserved on spec (branch && has_flag header.flags flag_b)) (sid_at header.records got)
+    option_and_then (λ on. made_on header.records reserved on spec (branch && has_flag header.flags flag_b))
+    (sid_at header.records got)

@@ -1,5 +1,6 @@
 -- The serials that a list of SIDs names.
-use Rattle.std.specs.Prelude.{◌≡◌, ℕ, ◌==◌, nat_lt, nat_le, Bool, true, false, not, ◌&&◌, ◌||◌, List, [], ◌∷◌, ◌++◌, Option, None, Some, Result, Ok, Err, map, fold, slice_index_or, if◌then◌else◌}
+use Rattle.std.specs.Prelude.{◌≡◌, ℕ, ◌==◌, nat_lt, nat_le, Bool, true, false, not, ◌&&◌, ◌||◌, List, [], ◌∷◌, ◌++◌}
+use Rattle.std.specs.Prelude.{Option, None, Some, Result, Ok, Err, map, fold, slice_index_or, if◌then◌else◌}
 use Rattle.sccs_sid.specs.declared.sids.Sid.{Sid}
 use Rattle.sccs_sid.specs.declared.sid_lists.Range.{Range}
 use Rattle.sccs_history.specs.Numbers.{has}
@@ -29,7 +30,8 @@ in_range range sid = one_line range.first sid && (not_after range.first sid && n
 abbrev pub range_fault : List Record → Range → Option Sid
 range_fault records range =
     if not (lives records range.first) then Some range.first
-    else (if lives records range.last && (one_line range.first range.last && not_after range.first range.last) then None else Some range.last)
+    else (if lives records range.last && (one_line range.first range.last && not_after range.first range.last) then None
+    else Some range.last)
 
 abbrev pub sid_named : Record → Named
 sid_named r = record { sid = r.sid; serial = r.serial }

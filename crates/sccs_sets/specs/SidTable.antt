@@ -1,6 +1,7 @@
 -- The table of the SIDs that are got and made where nothing is reserved, row by row: POSIX get, "Determination of SCCS
 -- Identification String".
-use Rattle.std.specs.Prelude.{ℕ, ◌==◌, nat_lt, max, Bool, true, false, not, ◌&&◌, List, [], ◌∷◌, Option, None, Some, option_map, option_and_then, unwrap_or, map, filter, if◌then◌else◌}
+use Rattle.std.specs.Prelude.{ℕ, ◌==◌, nat_lt, max, Bool, true, false, not, ◌&&◌, List, [], ◌∷◌, Option, None, Some}
+use Rattle.std.specs.Prelude.{option_map, option_and_then, unwrap_or, map, filter, if◌then◌else◌}
 use Rattle.std.specs.List.{list_any, reduce}
 use Rattle.sccs_sid.specs.declared.sids.Sid.{Sid}
 use Rattle.sccs_sid.specs.declared.sids.Spec.{Spec}
@@ -31,7 +32,8 @@ passes (Some newest) test = test newest
 
 -- a live delta of the trunk has the release
 abbrev pub is_trunk_release : List Record → ℕ → Bool
-is_trunk_release records release = list_any (λ r. not r.removed && (r.sid.branch == 0 && r.sid.release == release)) records
+is_trunk_release records release = list_any (λ r. not r.removed && (r.sid.branch == 0 && r.sid.release == release))
+    records
 
 -- the greatest live release of the trunk below another
 abbrev pub release_below : List Record → ℕ → Option ℕ
@@ -84,7 +86,8 @@ rows_of_release records release above newest below there =
     ∷ row 4 (Some false) newest (newest_sid records) level_up
     ∷ row 5 (Some true) above (newest_sid records) (branch_up records)
     ∷ row 6 (Some true) newest (newest_sid records) (branch_up records)
-    ∷ row 7 None (below && not there) (option_and_then (last_level records) (release_below records release)) (branch_up records)
+    ∷ row 7 None (below && not there) (option_and_then (last_level records) (release_below records release))
+    (branch_up records)
     ∷ row 8 None (below && there) (last_level records release) (branch_up records)
     ∷ []
 
@@ -116,10 +119,12 @@ abbrev pub rows : List Record → Option Spec → List Row
 rows records None = rows_alone records
 rows records (Some (Release release)) =
     rows_of_release records release (passes (trunk_release records None) (λ newest. nat_lt newest release))
-    (passes (trunk_release records None) (λ newest. newest == release)) (passes (trunk_release records None) (λ newest. nat_lt release newest)) (is_trunk_release records release)
+    (passes (trunk_release records None) (λ newest. newest == release)) (passes (trunk_release records None)
+    (λ newest. nat_lt release newest)) (is_trunk_release records release)
 rows records (Some (Branch release level number)) = rows_of_branch records release level number
 rows records (Some (Full sid)) =
-    if sid.branch == 0 then rows_of_level records sid (has_successor records sid) else rows_of_sequence records sid (has_successor records sid)
+    if sid.branch == 0 then rows_of_level records sid (has_successor records sid) else rows_of_sequence records sid
+    (has_successor records sid)
 
 -- a row is for a branch that is asked for, or for none, or for both
 abbrev pub is_for : Option Bool → Bool → Bool

@@ -13,4 +13,5 @@ Before a b = (a.release < b.release) ⊎ ((a.release ≡ b.release) × (a.level 
 abbrev pub IsTrunk : List Record → Type 0
 IsTrunk [] = Unit {0}
 IsTrunk (r ∷ rs) =
-    (r.removed ≡ false) × (r.sid ≡ trunk_sid r.sid.release r.sid.level) × AllByRecursion (λ s. Before s.sid r.sid) rs × IsTrunk rs
+    (r.removed ≡ false) × (r.sid ≡ trunk_sid r.sid.release r.sid.level) × AllByRecursion (λ s. Before s.sid r.sid) rs
+    × IsTrunk rs

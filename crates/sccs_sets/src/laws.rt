@@ -1,4 +1,5 @@
-ghost use Rattle.std.specs.Prelude.{◌≡◌, ◌≢◌, ◌<◌, ◌≤◌, ◌==◌, ℕ, not, ◌&&◌, true, false, Bool, List, [], ◌∷◌, Ok, None, Some, Option, length, map, option_and_then, IfSome};
+ghost use Rattle.std.specs.Prelude.{◌≡◌, ◌≢◌, ◌<◌, ◌≤◌, ◌==◌, ℕ, not, ◌&&◌, true, false, Bool, List, [], ◌∷◌, Ok, None};
+ghost use Rattle.std.specs.Prelude.{Some, Option, length, map, option_and_then, IfSome};
 ghost use Rattle.std.specs.List.{AllByRecursion, IsDistinct, flat_map};
 ghost use Rattle.sccs_sid.specs.declared.sids.Sid.{Sid};
 ghost use Rattle.sccs_sid.specs.declared.sid_lists.Range.{Range};
@@ -15,7 +16,8 @@ ghost use Rattle.sccs_sid.specs.declared.sids.Spec.TheVariants.{Branch, Release}
 ghost use Rattle.sccs_sets.specs.Made.{is_taken, made_on, next_level, next_on_line, on_new_branch, to_be_made};
 ghost use Rattle.sccs_sets.specs.Naming.{IsRising, in_range, named_serials, range_named, unless};
 ghost use Rattle.sccs_sets.specs.OnceNamed.{first_fault, first_places, range_serials};
-ghost use Rattle.sccs_sets.specs.Retrieved.{branch_sequence, branch_sid, live_where, newest_where, retrieved, serial_of, trunk_level, trunk_release, trunk_sid};
+ghost use Rattle.sccs_sets.specs.Retrieved.{branch_sequence, branch_sid, live_where, newest_where, retrieved};
+ghost use Rattle.sccs_sets.specs.Retrieved.{serial_of, trunk_level, trunk_release, trunk_sid};
 ghost use Rattle.sccs_sets.specs.SidTable.{fitting_rows, got_in, made_in, rows};
 ghost use Rattle.sccs_sets.specs.Trunks.{IsTrunk};
 
@@ -71,7 +73,8 @@ pub fn sid_table()
     ensures one { (records : List Record) (spec : Option Spec) (branch : Bool)
         → length (fitting_rows branch (rows records spec)) ≤ 1 }
     ensures got { (records : List Record) (spec : Option Spec) (branch : Bool)
-        → retrieved records spec false ≡ option_and_then (serial_of records) (got_in (fitting_rows branch (rows records spec))) }
+        → retrieved records spec false ≡ option_and_then (serial_of records)
+        (got_in (fitting_rows branch (rows records spec))) }
     ensures made { (header : Header) (spec : Option Spec) (branch : Bool) (n : ℕ)
         → Falls 65536 (serials_of header.records) → IfSome spec IsSpec → retrieved header.records spec false ≡ Some n
         → to_be_made header [] n spec branch
@@ -86,7 +89,8 @@ pub fn made_cases()
     ensures newest { (records : List Record) (release level : ℕ)
         → trunk_release records None ≡ Some release → trunk_level records release ≡ Some level
         → (made_on records [] (trunk_sid release level) None false ≡ next_level (trunk_sid release level))
-        × (made_on records [] (trunk_sid release level) (Some (Release release)) false ≡ next_level (trunk_sid release level)) }
+        × (made_on records [] (trunk_sid release level) (Some (Release release)) false ≡ next_level
+        (trunk_sid release level)) }
     ensures later { (records : List Record) (release level later : ℕ)
         → trunk_release records None ≡ Some release → trunk_level records release ≡ Some level → release < later
         → made_on records [] (trunk_sid release level) (Some (Release later)) false ≡ Some (trunk_sid later 1) }
@@ -96,5 +100,6 @@ pub fn made_cases()
         ≡ next_on_line (branch_sid release level number sequence) None }
     ensures earlier { (records : List Record) (release level newest : ℕ) (spec : Option Spec) (branch : Bool)
         → trunk_release records None ≡ Some newest → release < newest
-        → made_on records [] (trunk_sid release level) spec branch ≡ on_new_branch records [] (trunk_sid release level) }
+        → made_on records [] (trunk_sid release level) spec branch ≡ on_new_branch records []
+        (trunk_sid release level) }
 {}

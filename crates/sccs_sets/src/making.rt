@@ -3,7 +3,8 @@ ghost use Rattle.std.specs.List.{list_any};
 ghost use Rattle.std.specs.Option.{option_copied};
 ghost use Rattle.sccs_history.specs.Applied.{live_serials};
 ghost use Rattle.sccs_history.specs.Numbers.{has};
-ghost use Rattle.sccs_sets.specs.Made.{comes_after, is_beside, is_taken, live_branch, made_on, next, next_level, next_on_line, next_on_trunk, on_new_branch, reserved_branch, to_be_made};
+ghost use Rattle.sccs_sets.specs.Made.{comes_after, is_beside, is_taken, live_branch, made_on, next, next_level};
+ghost use Rattle.sccs_sets.specs.Made.{next_on_line, next_on_trunk, on_new_branch, reserved_branch, to_be_made};
 
 use crate::naming::{not_after, one_line};
 use crate::tables::sid_at;

@@ -1,4 +1,5 @@
-ghost use Rattle.std.specs.Prelude.{◌≡◌, ℕ, ◌==◌, ◌&&◌, ◌<◌, not, [], ◌∷◌, None, false, true, length, slice_index_or, slice_set, option_map, unwrap_or, if◌then◌else◌};
+ghost use Rattle.std.specs.Prelude.{◌≡◌, ℕ, ◌==◌, ◌&&◌, ◌<◌, not, [], ◌∷◌, None, false, true, length, slice_index_or};
+ghost use Rattle.std.specs.Prelude.{slice_set, option_map, unwrap_or, if◌then◌else◌};
 ghost use Rattle.sccs_history.specs.Applied.{is_barred, listed};
 ghost use Rattle.sccs_sets.specs.Marks.{or_else, said_by};
 

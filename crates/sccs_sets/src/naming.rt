@@ -1,11 +1,14 @@
-ghost use Rattle.std.specs.Prelude.{◌≡◌, ◌&&◌, not, true, List, [], length, position, reverse, IfOk, IfSome, OnOk, if◌then◌else◌};
+ghost use Rattle.std.specs.Prelude.{◌≡◌, ◌&&◌, not, true, List, [], length, position, reverse, IfOk, IfSome, OnOk};
+ghost use Rattle.std.specs.Prelude.{if◌then◌else◌};
 ghost use Rattle.std.specs.List.{AllByRecursion};
 ghost use Rattle.sccs_history.specs.Applied.{live_serials};
 ghost use Rattle.sccs_history.specs.History.{lives};
 ghost use Rattle.sccs_history.specs.Numbers.{has};
 ghost use Rattle.sccs_history.specs.declared.headers.Record.{Record};
 ghost use Rattle.sccs_sets.specs.LiveIndexes.{HasDeltas, single};
-ghost use Rattle.sccs_sets.specs.Naming.{AnswersSerials, AreMarks, add_new, add_range, comes_first, in_range, sid_named, named_serials, not_after, one_line, put_named, range_fault, range_named};
+ghost use Rattle.sccs_sets.specs.Naming.{AnswersSerials, AreMarks, add_new, add_range, comes_first, in_range};
+ghost use Rattle.sccs_sets.specs.Naming.{sid_named, named_serials, not_after, one_line, put_named, range_fault};
+ghost use Rattle.sccs_sets.specs.Naming.{range_named};
 ghost use Rattle.sccs_sets.specs.Retrieved.{live_where};
 
 use crate::faults::SetFault;
@@ -157,7 +160,8 @@ fn comes_first(found: &[Named], sid: Sid) -> bool
 
 // puts a delta behind others, where it comes before them; whether it does
 fn push_falling(found: &mut Vec<Named>, named: Named) -> Result<bool, Memory>
-    ensures { IfOk result (λ falls. falls ≡ true → reverse found.new.items ≡ put_named (reverse found.old.items) named) }
+    ensures { IfOk result (λ falls. falls ≡ true → reverse found.new.items ≡ put_named (reverse found.old.items)
+        named) }
 {
     if !comes_first(found, named.sid) {
         return Ok(false);
@@ -168,7 +172,8 @@ fn push_falling(found: &mut Vec<Named>, named: Named) -> Result<bool, Memory>
 
 // puts a record behind others, where it is live and in the range, and comes before them; whether it isn't out of order
 fn put_falling(found: &mut Vec<Named>, delta: &Record, range: &Range) -> Result<bool, Memory>
-    ensures { IfOk result (λ falls. falls ≡ true → reverse found.new.items ≡ (if not delta.now.removed && in_range range.now delta.now.sid
+    ensures { IfOk result (λ falls. falls ≡ true → reverse found.new.items ≡ (if not delta.now.removed
+        && in_range range.now delta.now.sid
         then put_named (reverse found.old.items) (sid_named delta.now) else reverse found.old.items)) }
 {
     if !delta.removed && in_range(range, delta.sid) {

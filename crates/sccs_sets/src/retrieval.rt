@@ -3,7 +3,8 @@ ghost use Rattle.std.specs.List.{reduce};
 ghost use Rattle.std.specs.Option.{option_copied};
 ghost use Rattle.sccs_history.specs.Applied.{live_serials};
 ghost use Rattle.sccs_history.specs.Numbers.{has};
-ghost use Rattle.sccs_sets.specs.Retrieved.{branch_sequence, branch_tip, is_within, newest_where, retrieved, serial_of, top_at, top_of, trunk_level, trunk_release, trunk_tip};
+ghost use Rattle.sccs_sets.specs.Retrieved.{branch_sequence, branch_tip, is_within, newest_where, retrieved, serial_of};
+ghost use Rattle.sccs_sets.specs.Retrieved.{top_at, top_of, trunk_level, trunk_release, trunk_tip};
 ghost use Rattle.sccs_history.specs.History.{same_sid};
 
 use sccs_history::{Header, Record};

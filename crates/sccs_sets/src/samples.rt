@@ -50,14 +50,22 @@ pub fn sids_made()
     ensures case_6 { made_on sixteen_table [] (trunk_sid 3 2) (Some (Release 3)) true ≡ Some (branch_sid 3 2 1 1) }
     ensures case_7 { made_on sixteen_table [] (trunk_sid 1 2) (Some (Release 2)) false ≡ Some (branch_sid 1 2 3 1) }
     ensures case_8 { made_on sixteen_table [] (trunk_sid 1 2) (Some (Release 1)) false ≡ Some (branch_sid 1 2 3 1) }
-    ensures case_9 { made_on sixteen_table [] (trunk_sid 3 2) (Some (Full (trunk_sid 3 2))) false ≡ Some (trunk_sid 3 3) }
-    ensures case_10 { made_on sixteen_table [] (trunk_sid 3 2) (Some (Full (trunk_sid 3 2))) true ≡ Some (branch_sid 3 2 1 1) }
-    ensures case_11 { made_on sixteen_table [] (trunk_sid 1 1) (Some (Full (trunk_sid 1 1))) false ≡ Some (branch_sid 1 1 1 1) }
-    ensures case_12 { made_on sixteen_table [] (branch_sid 1 2 1 2) (Some (Branch 1 2 1)) false ≡ Some (branch_sid 1 2 1 3) }
-    ensures case_13 { made_on sixteen_table [] (branch_sid 1 2 1 2) (Some (Branch 1 2 1)) true ≡ Some (branch_sid 1 2 3 1) }
-    ensures case_14 { made_on sixteen_table [] (branch_sid 1 2 1 2) (Some (Full (branch_sid 1 2 1 2))) false ≡ Some (branch_sid 1 2 1 3) }
-    ensures case_15 { made_on sixteen_table [] (branch_sid 1 2 1 2) (Some (Full (branch_sid 1 2 1 2))) true ≡ Some (branch_sid 1 2 3 1) }
-    ensures case_16 { made_on sixteen_table [] (branch_sid 1 2 1 1) (Some (Full (branch_sid 1 2 1 1))) false ≡ Some (branch_sid 1 2 3 1) }
+    ensures case_9 { made_on sixteen_table [] (trunk_sid 3 2) (Some (Full (trunk_sid 3 2))) false ≡ Some
+        (trunk_sid 3 3) }
+    ensures case_10 { made_on sixteen_table [] (trunk_sid 3 2) (Some (Full (trunk_sid 3 2))) true ≡ Some
+        (branch_sid 3 2 1 1) }
+    ensures case_11 { made_on sixteen_table [] (trunk_sid 1 1) (Some (Full (trunk_sid 1 1))) false ≡ Some
+        (branch_sid 1 1 1 1) }
+    ensures case_12 { made_on sixteen_table [] (branch_sid 1 2 1 2) (Some (Branch 1 2 1)) false ≡ Some
+        (branch_sid 1 2 1 3) }
+    ensures case_13 { made_on sixteen_table [] (branch_sid 1 2 1 2) (Some (Branch 1 2 1)) true ≡ Some
+        (branch_sid 1 2 3 1) }
+    ensures case_14 { made_on sixteen_table [] (branch_sid 1 2 1 2) (Some (Full (branch_sid 1 2 1 2))) false ≡ Some
+        (branch_sid 1 2 1 3) }
+    ensures case_15 { made_on sixteen_table [] (branch_sid 1 2 1 2) (Some (Full (branch_sid 1 2 1 2))) true ≡ Some
+        (branch_sid 1 2 3 1) }
+    ensures case_16 { made_on sixteen_table [] (branch_sid 1 2 1 1) (Some (Full (branch_sid 1 2 1 1))) false ≡ Some
+        (branch_sid 1 2 3 1) }
 {}
 
 /// The one row that fits, in the sixteen cases of what is given and whether a branch is asked for.
@@ -75,7 +83,8 @@ pub fn rows_that_fit()
     ensures case_11 { numbers_of (fitting_rows false (rows sixteen_table (Some (Full (trunk_sid 1 1))))) ≡ 11 ∷ [] }
     ensures case_12 { numbers_of (fitting_rows false (rows sixteen_table (Some (Branch 1 2 1)))) ≡ 12 ∷ [] }
     ensures case_13 { numbers_of (fitting_rows true (rows sixteen_table (Some (Branch 1 2 1)))) ≡ 13 ∷ [] }
-    ensures case_14 { numbers_of (fitting_rows false (rows sixteen_table (Some (Full (branch_sid 1 2 1 2))))) ≡ 14 ∷ [] }
+    ensures case_14 { numbers_of (fitting_rows false (rows sixteen_table (Some (Full (branch_sid 1 2 1 2))))) ≡ 14
+        ∷ [] }
     ensures case_15 { numbers_of (fitting_rows true (rows sixteen_table (Some (Full (branch_sid 1 2 1 2))))) ≡ 15 ∷ [] }
     ensures case_16 { numbers_of (fitting_rows true (rows sixteen_table (Some (Full (branch_sid 1 2 1 1))))) ≡ 16 ∷ [] }
     ensures nowhere { numbers_of (fitting_rows false (rows [] (Some (Release 1)))) ≡ [] }
@@ -84,8 +93,10 @@ pub fn rows_that_fit()
 /// The SIDs that are made beside reserved ones, and where no number is left.
 pub fn sids_made_beside_others()
     ensures trunk { made_on sixteen_table (trunk_sid 3 3 ∷ []) (trunk_sid 3 2) None false ≡ Some (branch_sid 3 2 1 1) }
-    ensures branch { made_on sixteen_table (branch_sid 1 2 1 3 ∷ []) (branch_sid 1 2 1 2) (Some (Branch 1 2 1)) false ≡ Some (branch_sid 1 2 3 1) }
-    ensures new_branch { made_on sixteen_table (branch_sid 1 2 3 1 ∷ []) (trunk_sid 1 2) (Some (Release 1)) false ≡ Some (branch_sid 1 2 4 1) }
+    ensures branch { made_on sixteen_table (branch_sid 1 2 1 3 ∷ []) (branch_sid 1 2 1 2) (Some (Branch 1 2 1)) false
+        ≡ Some (branch_sid 1 2 3 1) }
+    ensures new_branch { made_on sixteen_table (branch_sid 1 2 3 1 ∷ []) (trunk_sid 1 2) (Some (Release 1)) false ≡ Some
+        (branch_sid 1 2 4 1) }
     ensures full { made_on [] [] (trunk_sid 1 9999) None false ≡ None }
 {}
 

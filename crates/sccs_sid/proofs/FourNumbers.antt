@@ -21,9 +21,11 @@ same_four x y = ((x.0 == y.0 && x.1 == y.1) && x.2 == y.2) && x.3 == y.3
 pub four_same : (x y : ℕ × ℕ × ℕ × ℕ) → is_eq (four_cmp x y) ≡ same_four x y
 four_same x y =
     then_same (ordering_then (ordering_then (nat_cmp x.0 y.0) (nat_cmp x.1 y.1)) (nat_cmp x.2 y.2)) (nat_cmp x.3 y.3)
-    ∙ (ap (λ t. t && is_eq (nat_cmp x.3 y.3)) (then_same (ordering_then (nat_cmp x.0 y.0) (nat_cmp x.1 y.1)) (nat_cmp x.2 y.2)
+    ∙ (ap (λ t. t && is_eq (nat_cmp x.3 y.3)) (then_same (ordering_then (nat_cmp x.0 y.0) (nat_cmp x.1 y.1))
+    (nat_cmp x.2 y.2)
     ∙ ap (λ t. t && is_eq (nat_cmp x.2 y.2)) (then_same (nat_cmp x.0 y.0) (nat_cmp x.1 y.1)))
-    ∙ (ap (λ t. ((t && is_eq (nat_cmp x.1 y.1)) && is_eq (nat_cmp x.2 y.2)) && is_eq (nat_cmp x.3 y.3)) (nat_same x.0 y.0)
+    ∙ (ap (λ t. ((t && is_eq (nat_cmp x.1 y.1)) && is_eq (nat_cmp x.2 y.2)) && is_eq (nat_cmp x.3 y.3))
+    (nat_same x.0 y.0)
     ∙ (ap (λ t. ((x.0 == y.0 && t) && is_eq (nat_cmp x.2 y.2)) && is_eq (nat_cmp x.3 y.3)) (nat_same x.1 y.1)
     ∙ (ap (λ t. ((x.0 == y.0 && x.1 == y.1) && t) && is_eq (nat_cmp x.3 y.3)) (nat_same x.2 y.2)
     ∙ ap (λ t. ((x.0 == y.0 && x.1 == y.1) && x.2 == y.2) && t) (nat_same x.3 y.3)))))

@@ -8,7 +8,17 @@ use Rattle.sccs_sid.specs.declared.moments.Moment.{Moment}
 use Rattle.sccs_sid.specs.declared.moments.MomentFault.{MomentFault}
 
 abbrev at : ℕ → ℕ → ℕ → ℕ → ℕ → ℕ → Result Moment MomentFault
-at year month day hour minute second = Ok (record { seconds = second_at (record { year = year; month = month; day = day; hour = hour; minute = minute; second = second }) })
+at year month day hour minute second =
+    Ok (record {
+      seconds = second_at (record {
+        year = year;
+        month = month;
+        day = day;
+        hour = hour;
+        minute = minute;
+        second = second;
+      });
+    })
 
 abbrev fault : ℕ → Result Moment MomentFault
 fault place = Err (record { place = place })
@@ -70,15 +80,18 @@ cutoff_seventh = refl
 -- dates and times
 
 read_first : moment_of (codes "69/1/1") (codes "0:0:0") ≡ Ok (record { seconds = neg_ℤ (pos 31_536_000) })
-unfolding moment_of date_of time_of number number_at digits_after until behind days_from_civil day_count days_of_years days_of_months
+unfolding moment_of date_of time_of number number_at digits_after until behind days_from_civil day_count days_of_years
+    days_of_months
 read_first = refl
 
 read_last : moment_of (codes "68/12/31") (codes "23:59:59") ≡ Ok (record { seconds = pos 3_124_223_999 })
-unfolding moment_of date_of time_of number number_at digits_after until behind days_from_civil day_count days_of_years days_of_months
+unfolding moment_of date_of time_of number number_at digits_after until behind days_from_civil day_count days_of_years
+    days_of_months
 read_last = refl
 
 read_later : moment_of (codes "75/02/28") (codes "23:59:59") ≡ Ok (record { seconds = pos 162_863_999 })
-unfolding moment_of date_of time_of number number_at digits_after until behind days_from_civil day_count days_of_years days_of_months
+unfolding moment_of date_of time_of number number_at digits_after until behind days_from_civil day_count days_of_years
+    days_of_months
 read_later = refl
 
 read_no_year : moment_of [] (codes "0:0:0") ≡ fault 1

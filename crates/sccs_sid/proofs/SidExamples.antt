@@ -107,7 +107,8 @@ list_range : list_of (codes "1.2-1.4") ≡ Ok (range (sid 1 2 0 0) (sid 1 4 0 0)
 unfolding list_of ranges_of piece_at range_at last_at sid_at branch_at component_at number_at digits_after byte_at
 list_range = refl
 
-list_several : list_of (codes "1.1,1.3-1.2.1.10,0002.9") ≡ Ok (range (sid 1 1 0 0) (sid 1 1 0 0) ∷ range (sid 1 3 0 0) (sid 1 2 1 10) ∷ range (sid 2 9 0 0) (sid 2 9 0 0) ∷ [])
+list_several : list_of (codes "1.1,1.3-1.2.1.10,0002.9") ≡ Ok (range (sid 1 1 0 0) (sid 1 1 0 0) ∷ range (sid 1 3 0 0)
+    (sid 1 2 1 10) ∷ range (sid 2 9 0 0) (sid 2 9 0 0) ∷ [])
 unfolding list_of ranges_of piece_at range_at last_at sid_at branch_at component_at number_at digits_after byte_at
 list_several = refl
 

@@ -38,14 +38,26 @@ cutoff_of bytes = do
   hour ← unit_by 4 0 23 (piece_at day.1)
   minute ← unit_by 5 0 59 (piece_at hour.1)
   second ← unit_by 6 0 59 (piece_at minute.1)
-  ended_by (record { seconds = second_at (record { year = full_year year.0; month = month.0; day = day.0; hour = hour.0; minute = minute.0; second = second.0 }) }) (piece_at second.1)
+  ended_by (record {
+    seconds =
+        second_at (record {
+          year = full_year year.0;
+          month = month.0;
+          day = day.0;
+          hour = hour.0;
+          minute = minute.0;
+          second = second.0;
+        });
+  }) (piece_at second.1)
 
--- the pieces in plain words: a digit with the digit after it, where one follows, else alone; other bytes are passed over
+-- the pieces in plain words: a digit with the digit after it, where one follows, else alone; other bytes are passed
+-- over
 unfoldable pub digit_pieces : List ℕ → List ℕ
 digit_pieces [] = []
 digit_pieces (b ∷ []) = if is_no_digit b then [] else (b - 48) ∷ []
 digit_pieces (b ∷ c ∷ bytes) =
-    if is_no_digit b then digit_pieces (c ∷ bytes) else if is_no_digit c then (b - 48) ∷ digit_pieces bytes else ((b - 48) * 10 + (c - 48)) ∷ digit_pieces bytes
+    if is_no_digit b then digit_pieces (c ∷ bytes) else if is_no_digit c then (b - 48) ∷ digit_pieces bytes
+    else ((b - 48) * 10 + (c - 48)) ∷ digit_pieces bytes
 
 -- the year, the first piece, and the others
 abbrev pub year_piece : List ℕ → Result (ℕ × List ℕ) MomentFault
@@ -70,4 +82,14 @@ of_pieces numbers = do
   hour ← unit_piece 4 0 23 day.1
   minute ← unit_piece 5 0 59 hour.1
   second ← unit_piece 6 0 59 minute.1
-  no_piece (record { seconds = second_at (record { year = full_year year.0; month = month.0; day = day.0; hour = hour.0; minute = minute.0; second = second.0 }) }) second.1
+  no_piece (record {
+    seconds =
+        second_at (record {
+          year = full_year year.0;
+          month = month.0;
+          day = day.0;
+          hour = hour.0;
+          minute = minute.0;
+          second = second.0;
+        });
+  }) second.1

@@ -1,5 +1,7 @@
 -- Moments: what they are, how a date and a time are read, and the one written spelling.
-use Rattle.std.specs.Prelude.{ℕ, zero, suc, ◌+◌, ◌-◌, ◌*◌, ◌/◌, ◌%◌, ◌<◌, ◌≤◌, ◌&&◌, nat_lt, nat_le, List, [], ◌∷◌, ◌++◌, Option, None, Some, option_map, option_and_then, Result, Ok, Err, if◌then◌else◌, ℤ, pos, neg_ℤ, ◌+ℤ◌, ◌*ℤ◌, unsigned_abs}
+use Rattle.std.specs.Prelude.{ℕ, zero, suc, ◌+◌, ◌-◌, ◌*◌, ◌/◌, ◌%◌, ◌<◌, ◌≤◌, ◌&&◌, nat_lt, nat_le, List, [], ◌∷◌}
+use Rattle.std.specs.Prelude.{◌++◌, Option, None, Some, option_map, option_and_then, Result, Ok, Err, if◌then◌else◌, ℤ}
+use Rattle.std.specs.Prelude.{pos, neg_ℤ, ◌+ℤ◌, ◌*ℤ◌, unsigned_abs}
 use Rattle.jiff_core.specs.Calendar.{IsBetween, days_in_month, days_from_civil}
 use Rattle.sccs_sid.specs.Reading.{◌>>=◌, number, until, behind}
 use Rattle.sccs_sid.specs.declared.moments.Moment.{Moment}
@@ -68,18 +70,37 @@ unfoldable pub moment_of : List ℕ → List ℕ → Result Moment MomentFault
 moment_of date time = do
   d ← date_of date
   t ← time_of time
-  Ok (record { seconds = second_at (record { year = d.0; month = d.1; day = d.2; hour = t.0; minute = t.1; second = t.2 }) })
+  Ok (record {
+    seconds = second_at (record {
+      year = d.0;
+      month = d.1;
+      day = d.2;
+      hour = t.0;
+      minute = t.1;
+      second =
+          t.2;
+    });
+  })
 
 -- month and day at a place of a year, counted from 0 at the first of a month, with at most `more` months after it
 unfoldable pub month_and_day : ℤ → ℕ → ℕ → ℕ → ℕ × ℕ
 month_and_day year zero month place = (month, place + 1)
 month_and_day year (suc more) month place =
-    if nat_lt place (days_in_month year month) then (month, place + 1) else month_and_day year more (month + 1) (place - days_in_month year month)
+    if nat_lt place (days_in_month year month) then (month, place + 1) else month_and_day year more (month + 1)
+    (place - days_in_month year month)
 
 -- the date and time in a year, by the days before its day and the seconds of that day
 abbrev pub civil_in : ℕ → ℕ × ℕ → ℕ → Civil
 civil_in year day second =
-    record { year = year; month = day.0; day = day.1; hour = second / 3600; minute = second / 60 % 60; second = second % 60 }
+    record {
+      year = year;
+      month = day.0;
+      day = day.1;
+      hour = second / 3600;
+      minute = second / 60 % 60;
+      second =
+          second % 60;
+    }
 
 -- the date and time of a day counted from 1969-01-01 and a second of it: a fourth year is the leap year
 abbrev pub civil_on : ℕ → ℕ → Civil

@@ -1,6 +1,7 @@
 -- Reading from left to right. A field is a value and the bytes after it. A fault is the number of bytes
 -- that were left where nothing goes on.
-use Rattle.std.specs.Prelude.{◌≡◌, ℕ, zero, suc, ◌+◌, ◌-◌, ◌*◌, ◌==◌, ◌||◌, Bool, true, false, List, [], ◌∷◌, length, nat_lt, Option, None, Some, Result, Ok, Err, if◌then◌else◌}
+use Rattle.std.specs.Prelude.{◌≡◌, ℕ, zero, suc, ◌+◌, ◌-◌, ◌*◌, ◌==◌, ◌||◌, Bool, true, false, List, [], ◌∷◌, length}
+use Rattle.std.specs.Prelude.{nat_lt, Option, None, Some, Result, Ok, Err, if◌then◌else◌}
 
 infixl 10 ◌>>=◌
 abbrev pub ◌>>=◌ : {A B E : Type 0} → Result A E → (A → Result B E) → Result B E
@@ -16,12 +17,14 @@ GivesRead view (Err e) read = read ≡ Err e
 unfoldable pub digits_after : ℕ → ℕ → List ℕ → ℕ × List ℕ
 digits_after zero high bytes = (high, bytes)
 digits_after (suc most) high [] = (high, [])
-digits_after (suc most) high (b ∷ bytes) = if nat_lt b 48 then (high, b ∷ bytes) else if nat_lt 57 b then (high, b ∷ bytes) else digits_after most (high * 10 + (b - 48)) bytes
+digits_after (suc most) high (b ∷ bytes) = if nat_lt b 48 then (high, b ∷ bytes) else if nat_lt 57 b
+    then (high, b ∷ bytes) else digits_after most (high * 10 + (b - 48)) bytes
 
 -- a number of one to `most` digits
 unfoldable pub number_at : ℕ → List ℕ → Result (ℕ × List ℕ) ℕ
 number_at most [] = Err 0
-number_at most (b ∷ bytes) = if nat_lt b 48 then Err (suc (length bytes)) else if nat_lt 57 b then Err (suc (length bytes)) else Ok (digits_after (most - 1) (b - 48) bytes)
+number_at most (b ∷ bytes) = if nat_lt b 48 then Err (suc (length bytes)) else if nat_lt 57 b then Err
+    (suc (length bytes)) else Ok (digits_after (most - 1) (b - 48) bytes)
 
 -- this one byte
 unfoldable pub byte_at : ℕ → List ℕ → Result (List ℕ) ℕ

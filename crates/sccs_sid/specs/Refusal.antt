@@ -4,7 +4,14 @@ use Rattle.std.specs.Fmt.{decimal}
 use Rattle.sccs_sid.specs.Moment.{two}
 use Rattle.sccs_sid.specs.Sid.{sid_text}
 use Rattle.sccs_sid.specs.declared.refusals.Refusal.{Refusal}
-use Rattle.sccs_sid.specs.declared.refusals.Refusal.TheVariants.{BadName, Locked, Missing, Exists, TooLong, NotSccs, BadSum, BadFormat, Encoded, BadPfile, Disagree, NotAllowed, NoEdit, ManyEdits, NoSid, BadList, OutsideRelease, LockedRelease, BeingEdited, BadScript, ScriptRange, BadText, NoKeywords, GExists, GDiffers, FlagBad, MrNeeded, MrNotAllowed, Unsupported, NotTip, NotOwner, Full, Changed, BadRcs, BadRevision, RcsScript, GroupPending, BadIntent}
+use Rattle.sccs_sid.specs.declared.refusals.Refusal.TheVariants.{BadName, Locked, Missing, Exists, TooLong, NotSccs}
+use Rattle.sccs_sid.specs.declared.refusals.Refusal.TheVariants.{BadSum, BadFormat, Encoded, BadPfile, Disagree}
+use Rattle.sccs_sid.specs.declared.refusals.Refusal.TheVariants.{NotAllowed, NoEdit, ManyEdits, NoSid, BadList}
+use Rattle.sccs_sid.specs.declared.refusals.Refusal.TheVariants.{OutsideRelease, LockedRelease, BeingEdited, BadScript}
+use Rattle.sccs_sid.specs.declared.refusals.Refusal.TheVariants.{ScriptRange, BadText, NoKeywords, GExists, GDiffers}
+use Rattle.sccs_sid.specs.declared.refusals.Refusal.TheVariants.{FlagBad, MrNeeded, MrNotAllowed, Unsupported, NotTip}
+use Rattle.sccs_sid.specs.declared.refusals.Refusal.TheVariants.{NotOwner, Full, Changed, BadRcs, BadRevision}
+use Rattle.sccs_sid.specs.declared.refusals.Refusal.TheVariants.{RcsScript, GroupPending, BadIntent}
 
 -- that of a list of SIDs, whichever SID it names
 abbrev pub bad_list_number : ℕ
@@ -53,7 +60,8 @@ number_of (BadIntent line) = 39
 
 -- the last five digits
 unfoldable pub last_five : ℕ → List ℕ
-last_five n = (48 + n / 10000 % 10) ∷ (48 + n / 1000 % 10) ∷ (48 + n / 100 % 10) ∷ (48 + n / 10 % 10) ∷ (48 + n % 10) ∷ []
+last_five n = (48 + n / 10000 % 10) ∷ (48 + n / 1000 % 10) ∷ (48 + n / 100 % 10) ∷ (48 + n / 10 % 10) ∷ (48 + n % 10)
+    ∷ []
 
 -- the stored sum and the computed one
 abbrev pub sums_text : ℕ → ℕ → List ℕ
@@ -110,7 +118,8 @@ reason (BadIntent line) = codes "format error in intent at line " ++ decimal lin
 
 -- the line of a file: what is wrong, and the digits of a number in parentheses
 abbrev pub line_of : List ℕ → List ℕ → List ℕ → List ℕ
-line_of name text digits = codes "ERROR [" ++ (name ++ (codes "]: " ++ (text ++ (codes " (" ++ (digits ++ codes ")\n")))))
+line_of name text digits =
+    codes "ERROR [" ++ (name ++ (codes "]: " ++ (text ++ (codes " (" ++ (digits ++ codes ")\n")))))
 
 -- the line that says a refusal of a file
 abbrev pub refusal_line : List ℕ → Refusal → List ℕ

@@ -41,7 +41,8 @@ numbers bytes = numbers_after 4 [] bytes
 abbrev pub sid_of_numbers : List ℕ → Result Sid SidFault
 sid_of_numbers (suc r ∷ suc l ∷ []) = Ok (record { release = suc r; level = suc l; branch = 0; sequence = 0 })
 sid_of_numbers (r ∷ l ∷ []) = Err OutOfRange
-sid_of_numbers (suc r ∷ suc l ∷ suc b ∷ suc s ∷ []) = Ok (record { release = suc r; level = suc l; branch = suc b; sequence = suc s })
+sid_of_numbers (suc r ∷ suc l ∷ suc b ∷ suc s ∷ []) =
+    Ok (record { release = suc r; level = suc l; branch = suc b; sequence = suc s })
 sid_of_numbers (r ∷ l ∷ b ∷ s ∷ []) = Err OutOfRange
 sid_of_numbers _ = Err Malformed
 

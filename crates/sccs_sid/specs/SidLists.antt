@@ -1,6 +1,7 @@
 -- Lists of SIDs: `range[,range]`, a range being one SID or two with a dash between them.
 -- The readers answer how many bytes were left at the first byte at which no list goes on.
-use Rattle.std.specs.Prelude.{◌≡◌, ℕ, zero, suc, ◌+◌, ◌-◌, ◌==◌, ◌&&◌, Bool, false, List, [], ◌∷◌, ◌++◌, length, Option, None, Some, Result, Ok, Err, if◌then◌else◌}
+use Rattle.std.specs.Prelude.{◌≡◌, ℕ, zero, suc, ◌+◌, ◌-◌, ◌==◌, ◌&&◌, Bool, false, List, [], ◌∷◌, ◌++◌, length, Option}
+use Rattle.std.specs.Prelude.{None, Some, Result, Ok, Err, if◌then◌else◌}
 use Rattle.sccs_sid.specs.Reading.{◌>>=◌, number_at, byte_at}
 use Rattle.sccs_sid.specs.Sid.{IsSid, sid_text}
 use Rattle.sccs_sid.specs.declared.sids.Sid.{Sid}
@@ -42,7 +43,8 @@ sid_at bytes = do
   release ← component_at bytes
   dotted ← byte_at 46 release.1
   level ← component_at dotted
-  if begins 46 level.1 then branch_at release.0 level.0 level.1 else Ok (record { release = release.0; level = level.0; branch = 0; sequence = 0 }, level.1)
+  if begins 46 level.1 then branch_at release.0 level.0 level.1
+      else Ok (record { release = release.0; level = level.0; branch = 0; sequence = 0 }, level.1)
 
 -- the last SID of a range, after a dash
 unfoldable pub last_at : Sid → List ℕ → Result (Range × List ℕ) ℕ
@@ -94,7 +96,8 @@ ReadsRanges (Err Memory) read = Unit {0}
 
 -- whether two SIDs are one
 abbrev pub is_same_sid : Sid → Sid → Bool
-is_same_sid a b = (a.release == b.release) && (a.level == b.level) && (a.branch == b.branch) && (a.sequence == b.sequence)
+is_same_sid a b = (a.release == b.release) && (a.level == b.level) && (a.branch == b.branch)
+    && (a.sequence == b.sequence)
 
 -- the written spelling of a range: one SID where the ends are equal, else both with a dash between them
 unfoldable pub range_text : Range → List ℕ

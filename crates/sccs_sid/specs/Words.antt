@@ -1,5 +1,6 @@
 -- The words of a line are what stands between blanks. A blank is the byte 32.
-use Rattle.std.specs.Prelude.{ℕ, ◌==◌, Bool, true, false, List, [], ◌∷◌, Option, Some, None, Result, Ok, Err, option_and_then, if◌then◌else◌}
+use Rattle.std.specs.Prelude.{ℕ, ◌==◌, Bool, true, false, List, [], ◌∷◌, Option, Some, None, Result, Ok, Err}
+use Rattle.std.specs.Prelude.{option_and_then, if◌then◌else◌}
 use Rattle.sccs_base.specs.Constants.{blank}
 use Rattle.sccs_sid.specs.Reading.{number_at, byte_at, number}
 

@@ -1,5 +1,6 @@
 ghost use Rattle.std.specs.Prelude.{◌≡◌, ◌+◌, ◌/◌, ◌%◌, ◌≤◌, ◌<◌, Ok, IfOk, pos};
-ghost use Rattle.sccs_sid.specs.Moment.{Exists, IsMoment, IsMomentSecond, date_of, time_of, within, second_at, civil_of, civil_date, civil_time, full_year};
+ghost use Rattle.sccs_sid.specs.Moment.{Exists, IsMoment, IsMomentSecond, date_of, time_of, within, second_at};
+ghost use Rattle.sccs_sid.specs.Moment.{civil_of, civil_date, civil_time, full_year};
 ghost use Rattle.jiff_core.specs.Calendar.{days_in_month};
 
 use crate::moments::{Moment, MomentFault};

@@ -1,7 +1,8 @@
 ghost use Rattle.std.specs.Prelude.{◌≡◌, ◌≤◌, ◌<◌, ◌↔◌, List, ◌++◌, ◌∷◌, IfOk, IfSome, IsSome, OnOk, OnErr, ◌*ℤ◌, pos};
 ghost use Rattle.sccs_base.specs.Causes.{GivesText};
 ghost use Rattle.sccs_sid.specs.declared.moments.Moment.{Moment};
-ghost use Rattle.sccs_sid.specs.Moment.{civil_of, IsMomentSecond, IsMoment, Exists, second_at, moment_of, moment_text, date_text, time_text};
+ghost use Rattle.sccs_sid.specs.Moment.{civil_of, IsMomentSecond, IsMoment, Exists, second_at, moment_of, moment_text};
+ghost use Rattle.sccs_sid.specs.Moment.{date_text, time_text};
 
 use crate::dates::{ones, read_date, read_time, second_of, shown_at, tens};
 use sccs_base::{Failed, Login, Sink};

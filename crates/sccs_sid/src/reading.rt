@@ -1,7 +1,8 @@
 //! Reading from left to right: a field and the bytes after it, or how many bytes were left where
 //! nothing goes on.
 ghost use Rattle.std.specs.Prelude.{◌≡◌, ◌+◌, ◌*◌, ◌^◌, ◌<◌, ◌≤◌, length, option_map, IfOk, IfErr, IfSome};
-ghost use Rattle.sccs_sid.specs.Reading.{GivesRead, digits_after, number_at, byte_at, number, until, behind, is_no_digit, from_digit};
+ghost use Rattle.sccs_sid.specs.Reading.{GivesRead, digits_after, number_at, byte_at, number, until, behind};
+ghost use Rattle.sccs_sid.specs.Reading.{is_no_digit, from_digit};
 
 // up to `most` more digits after those of a number, and the bytes after them
 fn digits_after(most: u32, high: u64, bytes: &[u8]) -> (u64, &[u8])

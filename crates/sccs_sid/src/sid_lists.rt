@@ -1,7 +1,9 @@
-ghost use Rattle.std.specs.Prelude.{◌≡◌, ◌+◌, ◌<◌, ◌≤◌, List, [], Some, length, insert, remove, slice_get, option_map, All, IfOk, IfErr, IfSome, OnOk, OnErr};
+ghost use Rattle.std.specs.Prelude.{◌≡◌, ◌+◌, ◌<◌, ◌≤◌, List, [], Some, length, insert, remove, slice_get, option_map};
+ghost use Rattle.std.specs.Prelude.{All, IfOk, IfErr, IfSome, OnOk, OnErr};
 ghost use Rattle.sccs_sid.specs.Reading.{GivesRead};
 ghost use Rattle.sccs_sid.specs.Sid.{IsComponent, IsSid};
-ghost use Rattle.sccs_sid.specs.SidLists.{IsRange, zero_fault, component_at, begins, branch_at, sid_at, last_at, range_at, after_range, piece_at, list_of, ReadsRanges};
+ghost use Rattle.sccs_sid.specs.SidLists.{IsRange, zero_fault, component_at, begins, branch_at, sid_at, last_at};
+ghost use Rattle.sccs_sid.specs.SidLists.{range_at, after_range, piece_at, list_of, ReadsRanges};
 
 use crate::reading::{byte_at, number_at};
 use crate::sids::Sid;

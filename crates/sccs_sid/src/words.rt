@@ -1,6 +1,7 @@
 //! Words between blanks. A blank is the byte 32.
 ghost use Rattle.std.specs.Prelude.{◌≡◌, ◌<◌, ◌≤◌, ◌^◌, [], ◌∷◌, length, option_map, IfSome, MatchOption};
-ghost use Rattle.sccs_sid.specs.Words.{begins_blank, ends_blank, skip_blanks, drop_blanks, words, with_word, one, three};
+ghost use Rattle.sccs_sid.specs.Words.{begins_blank, ends_blank, skip_blanks, drop_blanks, words, with_word, one};
+ghost use Rattle.sccs_sid.specs.Words.{three};
 
 use crate::reading::{byte_at, cut_at, number, number_at};
 use sccs_base::BLANK;

@@ -31,7 +31,8 @@ edit_command round turn = command_at round (edit_words (begins_branch turn)) []
 
 -- the comment of its delta is the round's number
 abbrev pub delta_command : ℕ → Turn → BatchEntry
-delta_command round turn = command_at round (codes "delta" ∷ codes "-s" ∷ (codes "-y" ++ decimal round) ∷ soak_file ∷ []) (script_of round turn)
+delta_command round turn = command_at round (codes "delta" ∷ codes "-s" ∷ (codes "-y" ++ decimal round) ∷ soak_file
+    ∷ []) (script_of round turn)
 
 -- the commands of so many rounds, from a round, a state of the draws and a number of lines on
 abbrev pub rounds_from : ℕ → ℕ → ℕ → ℕ → List BatchEntry

@@ -39,18 +39,24 @@ accepted d = Ok d
 ok_same : (d e : StepEffect) → accepted d ≡ accepted e → d ≡ e
 ok_same d e is = cc
 
-dropped_new : (o : Outcome) (d : StepEffect) → ((e : StepEffect) → o ≡ Ok e → e.new ≡ None) → dropped o ≡ Ok d → d.new ≡ None
+dropped_new : (o : Outcome) (d : StepEffect) → ((e : StepEffect) → o ≡ Ok e → e.new ≡ None) → dropped o ≡ Ok d
+    → d.new ≡ None
 dropped_new (Ok e) d none is = subst (λ (f : StepEffect). f.new ≡ None) (ok_same (dropped_effect e) d is) (none e refl)
 dropped_new (Err refusal) d none is = absurd cc
 
-dropped_locked : (o : Outcome) (d : StepEffect) (f g : Files) → ((e : StepEffect) → o ≡ Ok e → e.new ≡ Some g → LeavesLocked f g) → dropped o ≡ Ok d → d.new ≡ Some g → LeavesLocked f g
-dropped_locked (Ok e) d f g leaves is new = leaves e refl (ap (λ (x : StepEffect). x.new) (ok_same (dropped_effect e) d is) ∙ new)
+dropped_locked : (o : Outcome) (d : StepEffect) (f g : Files) → ((e : StepEffect) → o ≡ Ok e → e.new ≡ Some g
+    → LeavesLocked f g) → dropped o ≡ Ok d → d.new ≡ Some g → LeavesLocked f g
+dropped_locked (Ok e) d f g leaves is new =
+    leaves e refl (ap (λ (x : StepEffect). x.new) (ok_same (dropped_effect e) d is) ∙ new)
 dropped_locked (Err refusal) d f g leaves is new = absurd cc
 
 pub dropping_keeps : (x : Action) → KeepsFiles x → KeepsFiles (dropping x)
 dropping_keeps x keeps = record {
-  quiet = λ reads n i named f d is. dropped_new (x.step n i named f) d (λ e made. keeps.quiet reads n i named f e made) is;
+  quiet = λ reads n i named f d is. dropped_new (x.step n i named f) d (λ e made. keeps.quiet reads n i named f e made)
+      is;
   names = keeps.names;
-  locked = λ changes locks n i named f d is there g new. dropped_locked (x.step n i named f) d f g (λ e made brings. keeps.locked changes locks n i named f e made there g brings) is new;
-  pending = λ changes never n i v f d there is. dropped_new (x.step n i (map v (x.named n)) f) d (λ e made. keeps.pending changes never n i v f e there made) is;
+  locked = λ changes locks n i named f d is there g new. dropped_locked (x.step n i named f) d f g
+      (λ e made brings. keeps.locked changes locks n i named f e made there g brings) is new;
+  pending = λ changes never n i v f d there is. dropped_new (x.step n i (map v (x.named n)) f) d
+      (λ e made. keeps.pending changes never n i v f e there made) is;
 }

@@ -16,7 +16,8 @@ abbrev pub soaked : StepLists → StepLists
 soaked command = follow (saying [] [] 0) (λ code. command)
 
 abbrev pub soak_step_list : (BatchEntry → StepLists) → ℕ → StepLists
-soak_step_list command number = while_fine (λ (e : BatchEntry). soaked (command e)) (summary_step_list number) (soak_commands number)
+soak_step_list command number = while_fine (λ (e : BatchEntry). soaked (command e)) (summary_step_list number)
+    (soak_commands number)
 
 -- ---- over any disk
 
@@ -30,16 +31,21 @@ abbrev pub WholeSummary : ℕ → ℕ → List NamedStep → Type 0
 WholeSummary number = WholeBy Greatest (InTurn (OperandMakes (summary_action number)) (soak_file ∷ []))
 
 abbrev pub BegunSummary : ℕ → List NamedStep → Type 0
-BegunSummary number = BegunInTurn (OperandMakes (summary_action number)) (OperandBegins (summary_action number)) (soak_file ∷ [])
+BegunSummary number = BegunInTurn (OperandMakes (summary_action number)) (OperandBegins (summary_action number))
+    (soak_file ∷ [])
 
 abbrev pub WholeSoak : (BatchEntry → ℕ → List NamedStep → Type 0) → ℕ → ℕ → List NamedStep → Type 0
-WholeSoak whole number = WholeWhileFine (λ (e : BatchEntry). WholeSoaked (whole e)) (WholeSummary number) (soak_commands number)
+WholeSoak whole number = WholeWhileFine (λ (e : BatchEntry). WholeSoaked (whole e)) (WholeSummary number)
+    (soak_commands number)
 
-abbrev pub BegunSoak : (BatchEntry → ℕ → List NamedStep → Type 0) → (BatchEntry → List NamedStep → Type 0) → ℕ → List NamedStep → Type 0
-BegunSoak whole begun number = BegunWhileFine (λ (e : BatchEntry). WholeSoaked (whole e)) (λ (e : BatchEntry). BegunSoaked (begun e)) (BegunSummary number) (soak_commands number)
+abbrev pub BegunSoak : (BatchEntry → ℕ → List NamedStep → Type 0) → (BatchEntry → List NamedStep → Type 0) → ℕ
+    → List NamedStep → Type 0
+BegunSoak whole begun number = BegunWhileFine (λ (e : BatchEntry). WholeSoaked (whole e)) (λ (e : BatchEntry).
+    BegunSoaked (begun e)) (BegunSummary number) (soak_commands number)
 
 -- what a soak follows
-abbrev pub soaking : (BatchEntry → StepLists) → (BatchEntry → Type 0) → (BatchEntry → ℕ → List NamedStep → Type 0) → (BatchEntry → List NamedStep → Type 0) → ℕ → Following BatchEntry
+abbrev pub soaking : (BatchEntry → StepLists) → (BatchEntry → Type 0) → (BatchEntry → ℕ → List NamedStep → Type 0)
+    → (BatchEntry → List NamedStep → Type 0) → ℕ → Following BatchEntry
 soaking command fits whole begun number = record {
   each = λ (e : BatchEntry). soaked (command e);
   last = summary_step_list number;

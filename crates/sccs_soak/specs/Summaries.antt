@@ -1,5 +1,6 @@
 -- What a soak prints when its commands are done (own): how many rounds it made, and what is then in its file.
-use Rattle.std.specs.Prelude.{ℕ, ◌==◌, true, false, not, ◌&&◌, List, [], ◌∷◌, ◌++◌, length, filter, codes, decimal, Option, None, Some, option_map, Ok}
+use Rattle.std.specs.Prelude.{ℕ, ◌==◌, true, false, not, ◌&&◌, List, [], ◌∷◌, ◌++◌, length, filter, codes, decimal}
+use Rattle.std.specs.Prelude.{Option, None, Some, option_map, Ok}
 use Rattle.sccs_base.specs.Name.{is_sfile_name}
 use Rattle.sccs_sid.specs.Reading.{◌>>=◌}
 use Rattle.sccs_disk.specs.Files.{Content}
@@ -39,7 +40,9 @@ trunk_lines records items = lines_by (newest_trunk records) records items
 -- the four lines; the sum is that of all bytes behind the first line, as it says
 abbrev pub four_lines : ℕ → ℕ → ℕ → ℕ → List ℕ
 four_lines rounds deltas lines sum =
-    decimal rounds ++ (codes " steps\n" ++ (decimal deltas ++ (codes " deltas\n" ++ (decimal lines ++ (codes " lines\nsum " ++ (decimal sum ++ codes "\n"))))))
+    decimal rounds ++ (codes " steps\n"
+    ++ (decimal deltas ++ (codes " deltas\n"
+    ++ (decimal lines ++ (codes " lines\nsum " ++ (decimal sum ++ codes "\n"))))))
 
 -- the bytes of a file, where it is there, and the sum of those behind its first line
 abbrev pub bytes_or_none : Option Content → Option (List ℕ)
@@ -51,7 +54,8 @@ sum_in (Some bytes) = plain_sum (behind_sum bytes)
 
 -- what is printed of an s-file that was read
 abbrev pub summary_text : ℕ → Option (List ℕ) → List Record → List Item → List ℕ
-summary_text rounds bytes records items = four_lines rounds (live_count records) (trunk_lines records items) (sum_in bytes)
+summary_text rounds bytes records items = four_lines rounds (live_count records) (trunk_lines records items)
+    (sum_in bytes)
 
 -- an s-file is read, and its lines are printed
 unfoldable pub summary_outcome : ℕ → Files → Outcome

@@ -1,5 +1,6 @@
 -- What a round of a soak does to the trunk's newest text, by two draws and the number of its lines.
-use Rattle.std.specs.Prelude.{ℕ, ◌+◌, ◌-◌, ◌%◌, ◌==◌, ◌||◌, Bool, true, false, List, ◌++◌, codes, decimal, if◌then◌else◌}
+use Rattle.std.specs.Prelude.{ℕ, ◌+◌, ◌-◌, ◌%◌, ◌==◌, ◌||◌, Bool, true, false, List, ◌++◌, codes, decimal}
+use Rattle.std.specs.Prelude.{if◌then◌else◌}
 use Rattle.sccs_soak.specs.declared.turns.Turn.{Turn}
 use Rattle.sccs_soak.specs.declared.turns.Turn.TheVariants.{Add, Change, Delete, Branch}
 

@@ -1,7 +1,8 @@
 ghost use Rattle.std.specs.Prelude.{◌≡◌, ◌≤◌, ◌++◌, ◌∷◌, [], IfOk, OnOk, codes, decimal, true};
 ghost use Rattle.sccs_sid.specs.Moment.{IsMoment};
 ghost use Rattle.sccs_batch.specs.BatchText.{is_single};
-ghost use Rattle.sccs_soak.specs.Commands.{command_at, delta_command, edit_command, edit_words, first_command, stamp_at};
+ghost use Rattle.sccs_soak.specs.Commands.{command_at, delta_command, edit_command, edit_words, first_command};
+ghost use Rattle.sccs_soak.specs.Commands.{stamp_at};
 
 use crate::turns::{Turn, write_script};
 use itoa::Buffer;
@@ -85,7 +86,8 @@ fn comment_word(alloc: Global, round: u64) -> Result<Bytes, Memory>
 
 // the words of delta
 fn delta_words(alloc: Global, round: u64) -> Result<Words, Memory>
-    ensures { IfOk result (λ words. words ≡ codes "delta" ∷ codes "-s" ∷ (codes "-y" ++ decimal round) ∷ codes "s.soak" ∷ []) }
+    ensures { IfOk result (λ words. words ≡ codes "delta" ∷ codes "-s" ∷ (codes "-y" ++ decimal round) ∷ codes "s.soak"
+        ∷ []) }
 {
     let mut words = Words::new(alloc);
     push_word(alloc, &mut words, b"delta")?;

@@ -33,7 +33,8 @@ fn run_made<C: Commands, O: Sink, E: Sink, D: Disk>(
     requires moment { IfOk made (λ entry. IsMoment entry.stamp.moment) }
     requires single { IfOk made (λ entry. is_single entry.words ≡ true) }
     ensures { (entry : BatchEntry) → IfOk made (λ e. e ≡ entry)
-        → RunsSoaked (C.command commands.now entry) (C.fits commands.now entry) (C.whole commands.now entry) (C.begun commands.now entry) result
+        → RunsSoaked (C.command commands.now entry) (C.fits commands.now entry) (C.whole commands.now entry)
+        (C.begun commands.now entry) result
         (quiet O.Sink E.Sink D.Disk out.old err.old disk.old) (quiet O.Sink E.Sink D.Disk out.new err.new disk.new) }
 {
     match made {
@@ -53,7 +54,8 @@ fn run_round<C: Commands, O: Sink, E: Sink, D: Disk>(
     disk: &mut D,
 ) -> Result<u8, Fault>
     requires { round ≤ 2000 }
-    ensures { RunsRound (C.command commands.now) (C.fits commands.now) (C.whole commands.now) (C.begun commands.now) round turn result
+    ensures { RunsRound (C.command commands.now) (C.fits commands.now) (C.whole commands.now) (C.begun commands.now)
+        round turn result
         (quiet O.Sink E.Sink D.Disk out.old err.old disk.old) (quiet O.Sink E.Sink D.Disk out.new err.new disk.new) }
 {
     let edit = edit_command(alloc, round, turn);
@@ -75,7 +77,8 @@ fn print_streams<I: Source, O: Sink, E: Sink, D: Disk>(
     streams: &mut Streams<I, O, E, D>,
 ) -> Result<u8, Fault>
     ensures loans { SameLoans streams.old streams.new }
-    ensures run { RunsStepList (summary_step_list number) (λ i. Unit {0}) (WholeSummary number) (BegunSummary number) result
+    ensures run { RunsStepList (summary_step_list number) (λ i. Unit {0}) (WholeSummary number) (BegunSummary number)
+        result
         (setting I.Source O.Sink E.Sink D.Disk streams.old) (setting I.Source O.Sink E.Sink D.Disk streams.new) }
 {
     let utility = Ordinary {
@@ -94,7 +97,8 @@ fn print_made<I: Source, O: Sink, E: Sink, D: Disk>(
     disk: &mut D,
 ) -> Result<u8, Fault>
     ensures { RunsStepList (summary_step_list number) (λ i. Unit {0}) (WholeSummary number) (BegunSummary number) result
-        (setting_of I.Source O.Sink E.Sink D.Disk input.old out.old err.old disk.old) (setting_of I.Source O.Sink E.Sink D.Disk input.new out.new err.new disk.new) }
+        (setting_of I.Source O.Sink E.Sink D.Disk input.old out.old err.old disk.old)
+        (setting_of I.Source O.Sink E.Sink D.Disk input.new out.new err.new disk.new) }
 {
     let mut streams = Streams {
         input,
@@ -132,7 +136,8 @@ fn run_rounds<C: Commands, O: Sink, E: Sink, D: Disk>(
     disk: &mut D,
 ) -> Result<u8, Fault>
     requires { number ≤ 2000 }
-    ensures { RunsWhileFine (soaking (C.command commands.now) (C.fits commands.now) (C.whole commands.now) (C.begun commands.now) number) (rounds_from number 1 number 0) result
+    ensures { RunsWhileFine (soaking (C.command commands.now) (C.fits commands.now) (C.whole commands.now)
+        (C.begun commands.now) number) (rounds_from number 1 number 0) result
         (quiet O.Sink E.Sink D.Disk out.old err.old disk.old) (quiet O.Sink E.Sink D.Disk out.new err.new disk.new) }
 {
     let mut draws = Draws { state: number };
@@ -167,7 +172,8 @@ pub fn run_soak<C: Commands, O: Sink, E: Sink, D: Disk>(
     disk: &mut D,
 ) -> Result<u8, Fault>
     requires { number ≤ 2000 }
-    ensures { RunsSoak (C.command commands.now) (C.fits commands.now) (C.whole commands.now) (C.begun commands.now) number result
+    ensures { RunsSoak (C.command commands.now) (C.fits commands.now) (C.whole commands.now) (C.begun commands.now)
+        number result
         (quiet O.Sink E.Sink D.Disk out.old err.old disk.old) (quiet O.Sink E.Sink D.Disk out.new err.new disk.new) }
 {
     let first = first_command(alloc);

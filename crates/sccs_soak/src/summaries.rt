@@ -15,7 +15,8 @@ ghost use Rattle.sccs_steps.specs.Causes.{PrintCauses};
 ghost use Rattle.sccs_table.specs.ReaderState.{bytes_in};
 ghost use Rattle.sccs_soak.specs.Counting.{CountsLines};
 ghost use Rattle.sccs_soak.specs.Keeps.{summary_keeps};
-ghost use Rattle.sccs_soak.specs.Summaries.{four_lines, live_count, newest_trunk, summary_action, summary_outcome, summary_text, trunk_lines};
+ghost use Rattle.sccs_soak.specs.Summaries.{four_lines, live_count, newest_trunk, summary_action, summary_outcome};
+ghost use Rattle.sccs_soak.specs.Summaries.{summary_text, trunk_lines};
 
 use itoa::Buffer;
 use sccs_base::{Failed, Name, NullSink, Sink, Source, give_parts};
@@ -67,7 +68,8 @@ fn version_lines<D: Disk>(
     ensures same { D.told disk.new ≡ D.told disk.old }
     ensures causes { PrintCauses result 0 0 (D.faults disk.old) (D.faults disk.new) }
     ensures checks { RefusesWithin file_checks result }
-    ensures counts { (bytes : List ℕ) (items : List Item) → IsListedFile (bytes_in (seen (D.told disk.old)) name.now) front.now bytes items
+    ensures counts { (bytes : List ℕ) (items : List Item) → IsListedFile (bytes_in (seen (D.told disk.old)) name.now)
+        front.now bytes items
         → CountsLines (Some serial) front.now.header.records items result }
 {
     let none = Serials::empty(alloc);
@@ -94,7 +96,8 @@ fn trunk_lines<D: Disk>(
     ensures same { D.told disk.new ≡ D.told disk.old }
     ensures causes { PrintCauses result 0 0 (D.faults disk.old) (D.faults disk.new) }
     ensures checks { RefusesWithin file_checks result }
-    ensures counts { (bytes : List ℕ) (items : List Item) → IsListedFile (bytes_in (seen (D.told disk.old)) name.now) front.now bytes items
+    ensures counts { (bytes : List ℕ) (items : List Item) → IsListedFile (bytes_in (seen (D.told disk.old)) name.now)
+        front.now bytes items
         → CountsLines (newest_trunk front.now.header.records) front.now.header.records items result }
 {
     match newest_trunk(front.header.records.items()) {
@@ -111,7 +114,8 @@ fn give_summary<O: Sink>(
     sum: u16,
     out: &mut O,
 ) -> Result<(), Failed>
-    ensures { GivesText (four_lines rounds deltas lines sum) (O.given out.old) (O.given out.new) (O.faults out.old) (O.faults out.new) result }
+    ensures { GivesText (four_lines rounds deltas lines sum) (O.given out.old) (O.given out.new) (O.faults out.old)
+        (O.faults out.new) result }
 {
     let (mut first, mut second) = (Buffer::new(), Buffer::new());
     let (mut third, mut last) = (Buffer::new(), Buffer::new());
@@ -147,8 +151,10 @@ fn print_summary<O: Sink, D: Disk>(
     ensures same { D.told disk.new ≡ D.told disk.old }
     ensures causes { PrintCauses result (O.faults out.old) (O.faults out.new) (D.faults disk.old) (D.faults disk.new) }
     ensures checks { RefusesWithin file_checks result }
-    ensures prints { (bytes : List ℕ) (items : List Item) → IsListedFile (bytes_in (seen (D.told disk.old)) name.now) front.now bytes items
-        → PrintsAll (summary_text rounds (Some bytes) front.now.header.records items) result (O.given out.old) (O.given out.new) }
+    ensures prints { (bytes : List ℕ) (items : List Item) → IsListedFile (bytes_in (seen (D.told disk.old)) name.now)
+        front.now bytes items
+        → PrintsAll (summary_text rounds (Some bytes) front.now.header.records items) result (O.given out.old)
+        (O.given out.new) }
 {
     let lines = match trunk_lines(alloc, name, front, disk) {
         Ok(lines) => lines,
@@ -169,7 +175,8 @@ fn summarize<O: Sink, D: Disk>(
     out: &mut O,
     disk: &mut D,
 ) -> Result<(), StepFault>
-    ensures shows { IfSome (seen (D.told disk.old)) (λ (v : View). ShowsOutcome name.now (summary_outcome rounds (look v name.now)) result (O.given out.old) (O.given out.new)) }
+    ensures shows { IfSome (seen (D.told disk.old)) (λ (v : View). ShowsOutcome name.now
+        (summary_outcome rounds (look v name.now)) result (O.given out.old) (O.given out.new)) }
     ensures same { D.told disk.new ≡ D.told disk.old }
     ensures causes { PrintCauses result (O.faults out.old) (O.faults out.new) (D.faults disk.old) (D.faults disk.new) }
     ensures checks { RefusesWithin prs_checks result }

@@ -1,5 +1,6 @@
 -- What the calls of a splicer do: what they put, and what is still owed for the items to come.
-use Rattle.std.specs.Prelude.{◌≡◌, ℕ, suc, ◌+◌, Bool, true, false, not, ◌&&◌, List, [], ◌∷◌, ◌++◌, Result, OnOk, if◌then◌else◌}
+use Rattle.std.specs.Prelude.{◌≡◌, ℕ, suc, ◌+◌, Bool, true, false, not, ◌&&◌, List, [], ◌∷◌, ◌++◌, Result, OnOk}
+use Rattle.std.specs.Prelude.{if◌then◌else◌}
 use Rattle.sccs_history.specs.Numbers.{front_if, has, is_empty}
 use Rattle.sccs_history.specs.declared.headers.Item.{Item}
 use Rattle.sccs_history.specs.declared.headers.Item.TheVariants.{Text, Insert, Delete, End}
@@ -31,7 +32,8 @@ may_join s = s.opened && (is_empty (added_after s.line s.plan.added) && has s.pl
 
 -- whether it goes on, by the items to come
 abbrev pub splice_goes_on : SplicerState → List (Item × Bool) → Bool
-splice_goes_on s told = s.opened && (is_empty (added_after s.line s.plan.added) && (has s.plan.deleted (suc s.line) && visible_next told))
+splice_goes_on s told = s.opened && (is_empty (added_after s.line s.plan.added) && (has s.plan.deleted (suc s.line)
+    && visible_next told))
 
 -- the new lines that are still to be put
 abbrev pub due_lines : SplicerState → List Item
@@ -66,7 +68,8 @@ IsControl (End m) = Unit {0}
 -- All that is still to be put for the items to come.
 abbrev pub items_owed : SplicerState → List (Item × Bool) → List Item
 items_owed s told =
-    front_if (s.opened && not (splice_goes_on s told)) (End s.serial) (due_lines s ++ (s.held ++ spread s.plan s.serial (splice_goes_on s told) s.line told))
+    front_if (s.opened && not (splice_goes_on s told)) (End s.serial)
+    (due_lines s ++ (s.held ++ spread s.plan s.serial (splice_goes_on s told) s.line told))
 
 -- how many of the items are lines of the base
 abbrev pub base_count : List (Item × Bool) → ℕ
@@ -85,7 +88,8 @@ pub record SplicesOn (pushed : List (Item × Bool)) (items : List Item) (s s2 : 
 
 -- A call that pushes items, each with whether it is a line of the base: some items are put, and they and what is owed
 -- then are what was owed.
-pub record Splices {T : Type 0} (pushed : List (Item × Bool)) (s s2 : SplicerState) (w w2 : Writer) (old new : Told) (faults faults_after : ℕ) (result : Result T DiskRefusal) : Type 0 where
+pub record Splices {T : Type 0} (pushed : List (Item × Bool)) (s s2 : SplicerState) (w w2 : Writer) (old new : Told)
+    (faults faults_after : ℕ) (result : Result T DiskRefusal) : Type 0 where
   pub items : List Item
   pub puts : PutsText (spelled items) w w2 old new faults faults_after result
   pub goes : OnOk result (SplicesOn pushed items s s2)

@@ -22,17 +22,21 @@ ghost use Rattle.sccs_splicer.specs.Splices.{new_splice, items_owed, Splices, Sp
 /// the written spelling of the items of a new delta. Behind a header that keeps the rules, whose newest
 /// delta has the serial, an s-file of them reads as these.
 pub fn spliced_bodies()
-    ensures whole { (items : List Item) (set : List ℕ) (orders : List Order) (n : ℕ) (s : SplicerState) (w w2 w3 : Writer)
+    ensures whole { (items : List Item) (set : List ℕ) (orders : List Order) (n : ℕ) (s : SplicerState)
+        (w w2 w3 : Writer)
         (a b c : Told) (f g h : ℕ)
-        → Splices (told_behind set [] items) (new_splice n (plan orders (length (select set (lines_of items))))) s w w2 a b f g (Ok (tt {0}))
+        → Splices (told_behind set [] items) (new_splice n (plan orders (length (select set (lines_of items))))) s w w2
+        a b f g (Ok (tt {0}))
         → PutsText (spelled (items_owed s [])) w2 w3 b c g h (Ok (tt {0}))
         → PutsText (spelled (places items set orders n)) w w3 a c f h (Ok (tt {0})) }
     ensures line { (items : List Item) (set : List ℕ) (orders : List Order) (n : ℕ) (s : SplicerState) (w w2 : Writer)
         (a b : Told) (f g : ℕ)
-        → Splices (told_behind set [] items) (new_splice n (plan orders (length (select set (lines_of items))))) s w w2 a b f g (Ok (tt {0}))
+        → Splices (told_behind set [] items) (new_splice n (plan orders (length (select set (lines_of items))))) s w w2
+        a b f g (Ok (tt {0}))
         → s.line ≡ length (select set (lines_of items)) }
     ensures reads { (header : Header) (live : List ℕ) (items : List Item) (set : List ℕ) (orders : List Order) (n : ℕ)
-        → IsHeader header → IsSpelled header → live_serials header.records ≡ n ∷ live → 0 < n → n < 65536 → above items ≤ n
+        → IsHeader header → IsSpelled header → live_serials header.records ≡ n ∷ live → 0 < n → n < 65536
+        → above items ≤ n
         → AllByRecursion IsItem items → AllByRecursion HasLines items → HaveLines orders → GoesOn live [] items
         → IsSFile (canonical header (places items set orders n)) header (places items set orders n) }
 {}

@@ -1,11 +1,13 @@
-ghost use Rattle.std.specs.Prelude.{◌≡◌, ◌+◌, ◌-◌, ◌<◌, ◌≤◌, ◌^◌, Bool, true, false, [], ◌∷◌, length, min, OnOk, IsErrOf};
+ghost use Rattle.std.specs.Prelude.{◌≡◌, ◌+◌, ◌-◌, ◌<◌, ◌≤◌, ◌^◌, Bool, true, false, [], ◌∷◌, length, min, OnOk};
+ghost use Rattle.std.specs.Prelude.{IsErrOf};
 ghost use Rattle.sccs_base.specs.Stream.{last_count};
 ghost use Rattle.sccs_disk.specs.Calls.{IsThere};
 ghost use Rattle.sccs_script_laws.specs.Plans.{added_count, IsInOrder};
 ghost use Rattle.sccs_history.specs.declared.headers.Item.TheVariants as items;
 ghost use Rattle.sccs_writers.specs.Puts.{PutsText};
 ghost use Rattle.sccs_writers.specs.Spelled.{spelled};
-ghost use Rattle.sccs_splicer.specs.Splices.{new_splice, due_lines, holding, IsControl, marked_items, may_join, items_owed, passed, settled_splice, settled_items, Splices};
+ghost use Rattle.sccs_splicer.specs.Splices.{new_splice, due_lines, holding, IsControl, marked_items, may_join};
+ghost use Rattle.sccs_splicer.specs.Splices.{items_owed, passed, settled_splice, settled_items, Splices};
 
 use crate::parts::{put_block, put_if};
 use crate::plan_places::PlanPlace;
@@ -33,7 +35,14 @@ impl Model for Splicer {
 
     ghost Value = { SplicerState };
 
-    ghost view = { λ s. record { serial = s.serial; plan = s.at.plan; line = s.at.line; opened = s.opened; due = s.due; held = s.held.items } };
+    ghost view = { λ s. record {
+      serial = s.serial;
+      plan = s.at.plan;
+      line = s.at.line;
+      opened = s.opened;
+      due = s.due;
+      held = s.held.items;
+    } };
 }
 
 // how many lines of the base a splicer counts
@@ -114,7 +123,8 @@ impl Splicer {
         disk: &mut D,
     ) -> Result<(), DiskRefusal>
         requires { IsThere out.old.name (D.told disk.old) }
-        ensures puts { PutsText (spelled (settled_items self.old goes)) out.old out.new (D.told disk.old) (D.told disk.new)
+        ensures puts { PutsText (spelled (settled_items self.old goes)) out.old out.new (D.told disk.old)
+            (D.told disk.new)
             (D.faults disk.old) (D.faults disk.new) result }
         ensures ok { OnOk result (self.new ≡ settled_splice self.old) }
     {

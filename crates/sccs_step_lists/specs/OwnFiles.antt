@@ -11,7 +11,8 @@ use Rattle.sccs_steps.specs.Calls.{Scene, shown}
 use Rattle.sccs_steps.specs.ListStops.{MayBegin}
 use Rattle.sccs_steps.specs.StepLists.{NamedStep}
 use Rattle.sccs_steps.specs.declared.faults.Fault.{Fault}
-use Rattle.sccs_step_lists.specs.StepLists.{AllClear, AllExempt, AllPlain, AllSafe, StepLists, Portion, portions_of, steps_along}
+use Rattle.sccs_step_lists.specs.StepLists.{AllClear, AllExempt, AllPlain, AllSafe, StepLists, Portion, portions_of}
+use Rattle.sccs_step_lists.specs.StepLists.{steps_along}
 use Rattle.sccs_step_lists.specs.Following.{AreKnown, StepListCrashPoints, RunsTo}
 
 -- the working files of the names of steps
@@ -34,19 +35,25 @@ working_along step_list folder i = working_in (portions_of step_list folder i)
 
 -- the input is as it is asked, and the files of the names of steps are apart from the working files of others
 abbrev pub IsGivenTo : StepLists → (List ℕ → Type 0) → Folder → List ℕ → Type 0
-IsGivenTo step_list given folder i = given i × AllClear (working_along step_list folder i) (portions_of step_list folder i)
+IsGivenTo step_list given folder i = given i × AllClear (working_along step_list folder i)
+    (portions_of step_list folder i)
 
 abbrev pub MakesOwn : StepLists → (List ℕ → Type 0) → Result ℕ Fault → Scene → Scene → Type 0
-MakesOwn step_list given r a b = (folder : Folder) (i : List ℕ) → IsGivenTo step_list given folder i → Shows (working_along step_list folder i) (seen a.told) (view_in folder)
+MakesOwn step_list given r a b = (folder : Folder) (i : List ℕ) → IsGivenTo step_list given folder i
+    → Shows (working_along step_list folder i) (seen a.told) (view_in folder)
     → AreKnown a.told folder (portions_of step_list folder i)
-    → RunsTo (step_list folder i).status (working_along step_list folder i) r folder (steps_along step_list folder i) (shown a) (shown b)
+    → RunsTo (step_list folder i).status (working_along step_list folder i) r folder (steps_along step_list folder i)
+    (shown a) (shown b)
 
 abbrev pub StopsOwn : StepLists → (List ℕ → Type 0) → Result ℕ Fault → Scene → Scene → Type 0
-StopsOwn step_list given r a b = (folder : Folder) (i : List ℕ) (m : Model) (past : List Model) → IsGivenTo step_list given folder i → Shows (working_along step_list folder i) (seen a.told) (view_in folder)
+StopsOwn step_list given r a b = (folder : Folder) (i : List ℕ) (m : Model) (past : List Model)
+    → IsGivenTo step_list given folder i → Shows (working_along step_list folder i) (seen a.told) (view_in folder)
     → a.told ≡ Tells m past → MayBegin folder m → AllSafe (view_in folder) (portions_of step_list folder i)
     → StepListCrashPoints (working_along step_list folder i) r folder (steps_along step_list folder i) a b m past
 
 abbrev pub UnlockedOwn : StepLists → (List ℕ → Type 0) → Told → Told → Type 0
-UnlockedOwn step_list given old new = (folder : Folder) (i : List ℕ) → IsGivenTo step_list given folder i → Shows (working_along step_list folder i) (seen old) (view_in folder)
+UnlockedOwn step_list given old new = (folder : Folder) (i : List ℕ) → IsGivenTo step_list given folder i
+    → Shows (working_along step_list folder i) (seen old) (view_in folder)
     → AreKnown old folder (portions_of step_list folder i)
-    → (exempt : List ℕ → Bool) → AllPlain (portions_of step_list folder i) → AllExempt exempt (portions_of step_list folder i) → BeginsUnlockedBut exempt old new
+    → (exempt : List ℕ → Bool) → AllPlain (portions_of step_list folder i)
+    → AllExempt exempt (portions_of step_list folder i) → BeginsUnlockedBut exempt old new

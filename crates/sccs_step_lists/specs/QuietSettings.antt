@@ -16,4 +16,5 @@ quiet o e d out err disk = record {
 
 -- the same with an input that has these bytes to come, and whose calls failed so often
 abbrev pub with_input : Option (List ℕ) → ℕ → Setting → Setting
-with_input left count s = record { left = left; stage = s.stage; faults = counts count s.faults.out s.faults.err s.faults.disk }
+with_input left count s =
+    record { left = left; stage = s.stage; faults = counts count s.faults.out s.faults.err s.faults.disk }

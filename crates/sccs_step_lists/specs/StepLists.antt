@@ -1,4 +1,5 @@
--- Lists of steps: the steps of several actions, one after another, and the status that a call answers that makes them all.
+-- Lists of steps: the steps of several actions, one after another, and the status that a call answers that makes them
+-- all.
 use Rattle.std.specs.Prelude.{◌≡◌, ℕ, zero, suc, Bool, true, false, List, [], ◌∷◌, ◌++◌, None, Err}
 use Rattle.std.specs.List.{AllByRecursion}
 use Rattle.sccs_base.specs.Name.{IsSFileName}
@@ -12,8 +13,10 @@ use Rattle.sccs_steps.specs.StepLists.{NamedStep, folder_after, status_of}
 use Rattle.sccs_steps.specs.Unlocked.{AreExempt, ArePlain}
 use Rattle.sccs_steps.specs.declared.statuses.StatusRule.TheVariants.{Greatest}
 
--- The steps of one action. What is asked of names is asked of those of its parts: the steps themselves, but for a step of several
--- names, whose parts are those of each name. It may finish what another call began, and take working files of the parts' names.
+-- The steps of one action. What is asked of names is asked of those of its parts: the steps themselves, but for a step
+-- of several
+-- names, whose parts are those of each name. It may finish what another call began, and take working files of the
+-- parts' names.
 pub record Portion : Type 0 where
   pub by : Action
   pub steps : List NamedStep
@@ -25,7 +28,8 @@ pub record Portion : Type 0 where
 abbrev pub portion : Action → List NamedStep → Portion
 portion x ts = record { by = x; steps = ts; parts = ts; finishes = false; plans = false }
 
--- The steps of several actions, each in the folder that those before left, and the status that a call answers that makes them all.
+-- The steps of several actions, each in the folder that those before left, and the status that a call answers that
+-- makes them all.
 pub record StepList : Type 0 where
   pub portions : List Portion
   pub status : ℕ
@@ -55,7 +59,8 @@ steps_along step_list folder i = steps_in (step_list folder i).portions
 -- in a folder a list of steps is followed by one that its status decides, which goes on in the folder that it left
 abbrev pub and_then : StepList → (ℕ → StepLists) → Folder → List ℕ → StepList
 and_then c rest folder i =
-    let d = rest c.status (folder_after folder (steps_in c.portions)) i in step_list_of (c.portions ++ d.portions) d.status
+    let d = rest c.status (folder_after folder (steps_in c.portions)) i in
+    step_list_of (c.portions ++ d.portions) d.status
 
 abbrev pub follow : StepLists → (ℕ → StepLists) → StepLists
 follow first rest = λ folder i. and_then (first folder i) rest folder i
@@ -70,7 +75,12 @@ command_of x operands = portion_of x (λ folder i. steps_at x folder i operands)
 
 -- a text on out and one on err, as a step that does nothing else
 abbrev pub said : List ℕ → List ℕ → NamedStep
-said out err = record { name = []; effect = record { new = None; text = []; out = out; err = err; status = 0 }; more = [] }
+said out err = record {
+  name = [];
+  effect = record { new = None; text = []; out = out; err = err; status = 0 };
+  more =
+      [];
+}
 
 -- no operand is taken
 abbrev pub no_action : Action

@@ -18,13 +18,16 @@ BegunIfFine begun zero = begun
 BegunIfFine begun (suc code) = λ ts. ts ≡ []
 
 -- those of several things as long as the status is 0, and then those of the last list of steps
-abbrev pub WholeWhileFine : {X : Type 0} → (X → ℕ → List NamedStep → Type 0) → (ℕ → List NamedStep → Type 0) → List X → ℕ → List NamedStep → Type 0
+abbrev pub WholeWhileFine : {X : Type 0} → (X → ℕ → List NamedStep → Type 0) → (ℕ → List NamedStep → Type 0) → List X
+    → ℕ → List NamedStep → Type 0
 WholeWhileFine whole last [] = last
 WholeWhileFine whole last (x ∷ xs) = WholeThen (whole x) (WholeIfFine (WholeWhileFine whole last xs))
 
-abbrev pub BegunWhileFine : {X : Type 0} → (X → ℕ → List NamedStep → Type 0) → (X → List NamedStep → Type 0) → (List NamedStep → Type 0) → List X → List NamedStep → Type 0
+abbrev pub BegunWhileFine : {X : Type 0} → (X → ℕ → List NamedStep → Type 0) → (X → List NamedStep → Type 0)
+    → (List NamedStep → Type 0) → List X → List NamedStep → Type 0
 BegunWhileFine whole begun last [] = last
-BegunWhileFine whole begun last (x ∷ xs) = BegunThen (whole x) (begun x) (BegunIfFine (BegunWhileFine whole begun last xs))
+BegunWhileFine whole begun last (x ∷ xs) = BegunThen (whole x) (begun x)
+    (BegunIfFine (BegunWhileFine whole begun last xs))
 
 -- What is followed, what is asked of each thing, and the steps that may come.
 pub record Following (X : Type 0) : Type 1 where
@@ -39,4 +42,5 @@ pub record Following (X : Type 0) : Type 1 where
 -- a call that follows several things so
 abbrev pub RunsWhileFine : {X : Type 0} → Following X → List X → Result ℕ Fault → Setting → Setting → Type 0
 RunsWhileFine f xs r s t =
-    RunsStepList (while_fine f.each f.last xs) (λ i. AllByRecursion f.fits xs) (WholeWhileFine f.whole f.last_whole xs) (BegunWhileFine f.whole f.begun f.last_begun xs) r s t
+    RunsStepList (while_fine f.each f.last xs) (λ i. AllByRecursion f.fits xs) (WholeWhileFine f.whole f.last_whole xs)
+    (BegunWhileFine f.whole f.begun f.last_begun xs) r s t

@@ -9,10 +9,14 @@ use Rattle.sccs_name_files.specs.StepFiles.{AreCleared, Files, Moves, is_left, i
 use Rattle.sccs_steps.specs.StepEffects.{Outcome, effect_of}
 use Rattle.sccs_steps.specs.Calls.{Meets, Uncommitted, Interrupted, world}
 
-pub same_cleared : (view : View) (told : Option View) (name : List ℕ) → told ≡ Some view → AreCleared name (Some view) told
-same_cleared view told name same = subst (λ (t : Option View). AreCleared name (Some view) t) (sym same) (λ k h. inr refl)
+pub same_cleared : (view : View) (told : Option View) (name : List ℕ) → told ≡ Some view
+    → AreCleared name (Some view) told
+same_cleared view told name same = subst (λ (t : Option View). AreCleared name (Some view) t) (sym same)
+    (λ k h. inr refl)
 
-pub kept : (view : View) (told : Option View) (name : List ℕ) (new : Option Files) (text : List ℕ) (out out2 err : Option (List ℕ)) → told ≡ Some view → GivesSome out out2 text → Uncommitted name new text (world (Some view) out err) (world told out2 err)
+pub kept : (view : View) (told : Option View) (name : List ℕ) (new : Option Files) (text : List ℕ)
+    (out out2 err : Option (List ℕ)) → told ≡ Some view → GivesSome out out2 text → Uncommitted name new text
+    (world (Some view) out err) (world told out2 err)
 kept view told name new text out out2 err same gives = record {
   view = (false, subst (λ (t : Option View). Moves (is_working name) (λ v. v) (Some view) t) (sym same) (λ k h. refl));
   cleared = same_cleared view told name same;
@@ -20,7 +24,9 @@ kept view told name new text out out2 err same gives = record {
   err = refl;
 }
 
-pub broken : (view : View) (told : Option View) (name : List ℕ) (o : Outcome) (out out2 err : Option (List ℕ)) → told ≡ Some view → GivesSome out out2 (effect_of name o).text → Interrupted name o (world (Some view) out err) (world told out2 err)
+pub broken : (view : View) (told : Option View) (name : List ℕ) (o : Outcome) (out out2 err : Option (List ℕ))
+    → told ≡ Some view → GivesSome out out2 (effect_of name o).text → Interrupted name o (world (Some view) out err)
+    (world told out2 err)
 broken view told name o out out2 err same gives = record {
   view = (0, subst (λ (t : Option View). Moves (is_left name) (λ v. v) (Some view) t) (sym same) (λ k h. refl));
   out = gives;
@@ -35,9 +41,14 @@ Explains o DiskFault = Unit {0}
 Explains o ReadFault = ⊥
 Explains o WriteFault = ⊥
 
-pub ends_silent : (view : View) (told : Option View) (name : List ℕ) (o : Outcome) (fault : StepFault) (out err : Option (List ℕ)) → told ≡ Some view → Explains o fault → Meets (λ (done : Unit {0}). 0) (Err fault) name o (world (Some view) out err) (world told out err)
-ends_silent view told name o (Refused refusal) out err same why = (why, kept view told name None [] out out err same (some_none out []))
-ends_silent view told name o Memory out err same why = kept view told name (effect_of name o).new (effect_of name o).text out out err same (some_none out (effect_of name o).text)
-ends_silent view told name o DiskFault out err same why = broken view told name o out out err same (some_none out (effect_of name o).text)
+pub ends_silent : (view : View) (told : Option View) (name : List ℕ) (o : Outcome) (fault : StepFault)
+    (out err : Option (List ℕ)) → told ≡ Some view → Explains o fault → Meets (λ (done : Unit {0}). 0)
+    (Err fault) name o (world (Some view) out err) (world told out err)
+ends_silent view told name o (Refused refusal) out err same why =
+    (why, kept view told name None [] out out err same (some_none out []))
+ends_silent view told name o Memory out err same why = kept view told name (effect_of name o).new
+    (effect_of name o).text out out err same (some_none out (effect_of name o).text)
+ends_silent view told name o DiskFault out err same why = broken view told name o out out err same
+    (some_none out (effect_of name o).text)
 ends_silent view told name o ReadFault out err same why = absurd why
 ends_silent view told name o WriteFault out err same why = absurd why

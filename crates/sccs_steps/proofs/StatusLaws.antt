@@ -1,5 +1,6 @@
 -- How statuses are joined: laws.
-use Rattle.std.proofs.Common.{◌≡◌, ◌⊎◌, ◌<◌, ◌==◌, ℕ, zero, suc, max, true, false, eqb-true, inl, inr, refl, sym, ap, ◌∙◌, arith}
+use Rattle.std.proofs.Common.{◌≡◌, ◌⊎◌, ◌<◌, ◌==◌, ℕ, zero, suc, max, true, false, eqb-true, inl, inr, refl, sym, ap}
+use Rattle.std.proofs.Common.{◌∙◌, arith}
 use Rattle.std.proofs.lemmas.Bool.{cases_Bool}
 use Rattle.sccs_steps.specs.Statuses.{idle_status, joined_status, zero_or_greater}
 use Rattle.sccs_steps.specs.declared.statuses.StatusRule.{StatusRule}
@@ -32,16 +33,21 @@ idle_last Greatest s = omega arith
 idle_last AnyZero zero = refl
 idle_last AnyZero (suc s) = both_positive (suc s) 1 (omega arith) (omega arith) ∙ omega arith
 
-grouped_positive : (a b c : ℕ) → 0 < a → 0 < b → 0 < c → zero_or_greater (zero_or_greater a b) c ≡ zero_or_greater a (zero_or_greater b c)
+grouped_positive : (a b c : ℕ) → 0 < a → 0 < b → 0 < c → zero_or_greater (zero_or_greater a b) c ≡ zero_or_greater a
+    (zero_or_greater b c)
 grouped_positive a b c p q r =
     ap (λ x. zero_or_greater x c) (both_positive a b p q)
     ∙ (both_positive (max a b) c (omega (arith, p)) r
     ∙ ((let e : max (max a b) c ≡ max a (max b c) = omega arith in e)
-    ∙ (sym (both_positive a (max b c) p (omega (arith, q))) ∙ ap (λ x. zero_or_greater a x) (sym (both_positive b c q r)))))
+    ∙ (sym (both_positive a (max b c) p (omega (arith, q))) ∙ ap (λ x. zero_or_greater a x)
+    (sym (both_positive b c q r)))))
 
-pub grouped : (rule : StatusRule) (a b c : ℕ) → joined_status rule (joined_status rule a b) c ≡ joined_status rule a (joined_status rule b c)
+pub grouped : (rule : StatusRule) (a b c : ℕ) → joined_status rule (joined_status rule a b) c ≡ joined_status rule a
+    (joined_status rule b c)
 grouped Greatest a b c = omega arith
 grouped AnyZero zero b c = refl
 grouped AnyZero (suc a) zero c = ap (λ x. zero_or_greater x c) (last_zero (suc a)) ∙ sym (last_zero (suc a))
-grouped AnyZero (suc a) (suc b) zero = last_zero (zero_or_greater (suc a) (suc b)) ∙ sym (ap (λ x. zero_or_greater (suc a) x) (last_zero (suc b)) ∙ last_zero (suc a))
-grouped AnyZero (suc a) (suc b) (suc c) = grouped_positive (suc a) (suc b) (suc c) (omega arith) (omega arith) (omega arith)
+grouped AnyZero (suc a) (suc b) zero = last_zero (zero_or_greater (suc a) (suc b))
+    ∙ sym (ap (λ x. zero_or_greater (suc a) x) (last_zero (suc b)) ∙ last_zero (suc a))
+grouped AnyZero (suc a) (suc b) (suc c) = grouped_positive (suc a) (suc b) (suc c) (omega arith) (omega arith)
+    (omega arith)

@@ -1,5 +1,6 @@
 -- What a utility does with its operands, in their order.
-use Rattle.std.specs.Prelude.{◌≡◌, ℕ, ◌≤◌, nat_lt, ◌==◌, length, Bool, true, false, ◌||◌, ◌⊎◌, List, [], ◌∷◌, drop, map, Option, None, Some, Result, Ok, Err, IfSome, IsSome, codes, if◌then◌else◌}
+use Rattle.std.specs.Prelude.{◌≡◌, ℕ, ◌≤◌, nat_lt, ◌==◌, length, Bool, true, false, ◌||◌, ◌⊎◌, List, [], ◌∷◌, drop, map}
+use Rattle.std.specs.Prelude.{Option, None, Some, Result, Ok, Err, IfSome, IsSome, codes, if◌then◌else◌}
 use Rattle.std.specs.List.{AllByRecursion, filter, list_any}
 use Rattle.std.specs.Str.{bytes_eq}
 use Rattle.sccs_base.specs.Constants.{file_limit}
@@ -55,7 +56,8 @@ is_several operand = bytes_eq operand (codes ".") || bytes_eq operand (codes "-"
 
 -- what is done with a file in a folder: a name that isn't taken is refused
 unfoldable pub outcome_at : Action → Folder → List ℕ → List ℕ → Outcome
-outcome_at x m i name = if x.fits name then x.step name i (map (view_in m) (x.named name)) (look (view_in m) name) else Err BadName
+outcome_at x m i name = if x.fits name then x.step name i (map (view_in m) (x.named name)) (look (view_in m) name)
+    else Err BadName
 
 abbrev pub step_at : Action → Folder → List ℕ → List ℕ → NamedStep
 step_at x m i name = named_step name (outcome_at x m i name)
@@ -80,7 +82,12 @@ names_given x i = if nat_lt file_limit (length i) then Err TooLong else Ok (filt
 
 -- that names are found is a step too, of the folder itself, which does nothing
 abbrev pub names_found : StatusRule → NamedStep
-names_found rule = record { name = codes "./"; effect = record { new = None; text = []; out = []; err = []; status = idle_status rule }; more = [] }
+names_found rule = record {
+  name = codes "./";
+  effect =
+      record { new = None; text = []; out = []; err = []; status = idle_status rule };
+  more = [];
+}
 
 abbrev pub input_steps : Action → List ℕ → Folder → Result (List (List ℕ)) Refusal → List NamedStep
 input_steps x i m (Ok names) = names_found x.rule ∷ steps_of x i m names
@@ -112,8 +119,10 @@ hears x operands = list_any (λ operand. kind_hears x.takes (kind_of x.takes ope
 abbrev pub IsHeard : Bool → Option (List ℕ) → List ℕ → Type 0
 IsHeard takes left i = (takes ≡ false) ⊎ (left ≡ Some i)
 
--- what the call of a step answers and leaves, where the disk tells its files; code is the status that an answer stands for
-abbrev pub SteppedAs : {X : Type 0} → (X → ℕ) → Action → Result X StepFault → List ℕ → Option (List ℕ) → Scene → Scene → Type 0
+-- what the call of a step answers and leaves, where the disk tells its files; code is the status that an answer stands
+-- for
+abbrev pub SteppedAs : {X : Type 0} → (X → ℕ) → Action → Result X StepFault → List ℕ → Option (List ℕ) → Scene → Scene
+    → Type 0
 SteppedAs code x r n left a b = IfSome (seen a.told) (λ v. (i : List ℕ) → IsHeard x.takes left i
     → Meets code r n (x.step n i (map v (x.named n)) (look v n)) (shown a) (shown b))
 
@@ -127,12 +136,15 @@ pub record LeavesLocked (f g : Files) : Type 0 where
   pub p : g.p ≡ f.p
   pub z : g.z ≡ f.z
 
--- An action that only reads changes no file, and one that changes files takes the names of s-files alone; one that locks its name
+-- An action that only reads changes no file, and one that changes files takes the names of s-files alone; one that
+-- locks its name
 -- leaves the files of a locked one, and one that doesn't changes nothing while an intent is there.
 pub record KeepsFiles (x : Action) : Type 0 where
-  pub quiet : x.reads ≡ true → (n i : List ℕ) (named : List (Option Content)) (f : Files) (d : StepEffect) → x.step n i named f ≡ Ok d → d.new ≡ None
+  pub quiet : x.reads ≡ true → (n i : List ℕ) (named : List (Option Content)) (f : Files) (d : StepEffect)
+      → x.step n i named f ≡ Ok d → d.new ≡ None
   pub names : x.reads ≡ false → (n : List ℕ) → x.fits n ≡ true → IsSFileName n
-  pub locked : x.reads ≡ false → x.locks ≡ true → (n i : List ℕ) (named : List (Option Content)) (f : Files) (d : StepEffect)
+  pub locked : x.reads ≡ false → x.locks ≡ true → (n i : List ℕ) (named : List (Option Content)) (f : Files)
+      (d : StepEffect)
       → x.step n i named f ≡ Ok d → IsSome f.z → (g : Files) → d.new ≡ Some g → LeavesLocked f g
   pub pending : x.reads ≡ false → x.locks ≡ false → (n i : List ℕ) (v : View) (f : Files) (d : StepEffect)
       → IsSome (v intent_file) → x.step n i (map v (x.named n)) f ≡ Ok d → d.new ≡ None
@@ -145,7 +157,8 @@ pub record IsSeen (w : List ℕ → Bool) (n : List ℕ) : Type 0 where
   pub g : w (drop 2 n) ≡ false
   pub l : w (l_file n) ≡ false
 
--- of a command that only reads the files that it sees are no working files of others; of one that changes files the working
+-- of a command that only reads the files that it sees are no working files of others; of one that changes files the
+-- working
 -- files of the name are among them too
 abbrev pub IsClear : Bool → (List ℕ → Bool) → List ℕ → Type 0
 IsClear reads w n = ((reads ≡ true) × IsSeen w n) ⊎ Apart w n
@@ -177,14 +190,17 @@ abbrev pub RefusesWithin : {X : Type 0} → List ℕ → Result X StepFault → 
 RefusesWithin checks r = (refusal : Refusal) → r ≡ Err (Refused refusal) → has_number checks (number_of refusal) ≡ true
 
 -- what a step answers, and what it writes on err
-abbrev pub SpeaksAs : {X : Type 0} → (X → ℕ) → Result X StepFault → List ℕ → Outcome → Option (List ℕ) → Option (List ℕ) → Type 0
+abbrev pub SpeaksAs : {X : Type 0} → (X → ℕ) → Result X StepFault → List ℕ → Outcome → Option (List ℕ) → Option (List ℕ)
+    → Type 0
 SpeaksAs code (Ok x) n o err err2 = (d : StepEffect) × (o ≡ Ok d) × (d.status ≡ code x) × GivesOk err err2 d.err
 SpeaksAs code (Err (Refused refusal)) n o err err2 = (o ≡ Err refusal) × (err2 ≡ err)
 SpeaksAs code (Err fault) n o err err2 = GivesSome err err2 (effect_of n o).err
 
 -- an outcome that may come explains the answer and what is written on err
-abbrev pub SpeaksByAs : {X : Type 0} → (X → ℕ) → (Outcome → Bool) → Result X StepFault → List ℕ → Option (List ℕ) → Option (List ℕ) → Type 0
+abbrev pub SpeaksByAs : {X : Type 0} → (X → ℕ) → (Outcome → Bool) → Result X StepFault → List ℕ → Option (List ℕ)
+    → Option (List ℕ) → Type 0
 SpeaksByAs code could r n err err2 = (o : Outcome) × (could o ≡ true) × SpeaksAs code r n o err err2
 
-abbrev pub SpeaksBy : (Outcome → Bool) → Result (Unit {0}) StepFault → List ℕ → Option (List ℕ) → Option (List ℕ) → Type 0
+abbrev pub SpeaksBy : (Outcome → Bool) → Result (Unit {0}) StepFault → List ℕ → Option (List ℕ) → Option (List ℕ)
+    → Type 0
 SpeaksBy could r n err err2 = SpeaksByAs (λ (done : Unit {0}). 0) could r n err err2

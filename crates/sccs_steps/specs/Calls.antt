@@ -30,7 +30,8 @@ scene t o e = record { told = t; out = o; err = e }
 abbrev pub shown : Scene → World
 shown a = world (seen a.told) a.out a.err
 
--- Nothing is committed, though the l-file may be new; the working files that the step made are gone, and a prefix of the text is
+-- Nothing is committed, though the l-file may be new; the working files that the step made are gone, and a prefix of
+-- the text is
 -- written.
 pub record Uncommitted (n : List ℕ) (new : Option Files) (text : List ℕ) (w w2 : World) : Type 0 where
   pub view : MovesEarly n new w.view w2.view
@@ -53,7 +54,8 @@ pub record ReportCut (n : List ℕ) (d : StepEffect) (w w2 : World) : Type 0 whe
   pub out : GivesSome w.out w2.out (d.text ++ d.out)
   pub err : GivesSome w.err w2.err d.err
 
--- The disk failed: some first of l-file, s-file, p-file and g-file are as the step makes them and the others as they were, and a prefix
+-- The disk failed: some first of l-file, s-file, p-file and g-file are as the step makes them and the others as they
+-- were, and a prefix
 -- of the text is written.
 pub record Interrupted (n : List ℕ) (o : Outcome) (w w2 : World) : Type 0 where
   pub view : MovesInOrder n (effect_of n o).new w.view w2.view
@@ -65,7 +67,8 @@ abbrev pub Fails : StepFault → List ℕ → Outcome → World → World → Ty
 Fails (Refused refusal) n o w w2 = (o ≡ Err refusal) × Uncommitted n None [] w w2
 Fails Memory n o w w2 = Uncommitted n (effect_of n o).new (effect_of n o).text w w2
 Fails ReadFault n o w w2 = Uncommitted n (effect_of n o).new (effect_of n o).text w w2
-Fails WriteFault n o w w2 = Uncommitted n (effect_of n o).new (effect_of n o).text w w2 ⊎ ((d : StepEffect) × (o ≡ Ok d) × ReportCut n d w w2)
+Fails WriteFault n o w w2 = Uncommitted n (effect_of n o).new (effect_of n o).text w w2 ⊎ ((d : StepEffect) × (o ≡ Ok d)
+    × ReportCut n d w w2)
 Fails DiskFault n o w w2 = Interrupted n o w w2
 
 -- what the call of a step answers, and leaves; code is the status that an answer stands for

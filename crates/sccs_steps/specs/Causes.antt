@@ -32,7 +32,8 @@ abbrev pub RunCauses : Result ℕ Fault → Counts → Counts → Type 0
 RunCauses r c c2 = Rises (r ≡ Err end.ReadFault) (r ≡ Err end.WriteFault) (r ≡ Err end.DiskFault) c c2
 
 -- The input is as it was, and none of its calls failed.
-pub record Ignores {T E : Type 0} (fault : E) (before after : Option (List ℕ)) (count count2 : ℕ) (result : Result T E) : Type 0 where
+pub record Ignores {T E : Type 0} (fault : E) (before after : Option (List ℕ)) (count count2 : ℕ)
+    (result : Result T E) : Type 0 where
   pub same : after ≡ before
   pub quiet : count2 ≡ count
   pub cause : result ≢ Err fault

@@ -1,5 +1,6 @@
 -- The crash points of a list of steps that began on a calm disk, and which of the steps are acknowledged.
-use Rattle.std.specs.Prelude.{◌≡◌, ◌≢◌, ℕ, suc, ◌+◌, ◌-◌, ◌<◌, ◌≤◌, ◌⊎◌, Bool, true, false, List, ◌++◌, length, take, drop, Option, None, Some, Result, Err, IsOk}
+use Rattle.std.specs.Prelude.{◌≡◌, ◌≢◌, ℕ, suc, ◌+◌, ◌-◌, ◌<◌, ◌≤◌, ◌⊎◌, Bool, true, false, List, ◌++◌, length, take}
+use Rattle.std.specs.Prelude.{drop, Option, None, Some, Result, Err, IsOk}
 use Rattle.std.specs.List.{AllByRecursion}
 use Rattle.sccs_base.specs.Name.{IsSFileName, p_file, z_file}
 use Rattle.sccs_base.specs.Stream.{GivesSome}
@@ -39,10 +40,12 @@ given_more None after = 0
 given_more (Some given) None = 0
 given_more (Some given) (Some after) = length after - length given
 
--- The step behind k others is acknowledged: a byte of its report, or of what stands behind it, was written on out or on err, or
+-- The step behind k others is acknowledged: a byte of its report, or of what stands behind it, was written on out or on
+-- err, or
 -- the call answered Ok.
 abbrev pub IsAcknowledged : Result ℕ Fault → List NamedStep → ℕ → World → World → Type 0
-IsAcknowledged r ts k a b = (length (out_before ts k) < given_more a.out b.out) ⊎ ((length (err_before ts k) < given_more a.err b.err) ⊎ IsOk r)
+IsAcknowledged r ts k a b = (length (out_before ts k) < given_more a.out b.out)
+    ⊎ ((length (err_before ts k) < given_more a.err b.err) ⊎ IsOk r)
 
 -- ---- crash points
 
@@ -50,14 +53,16 @@ IsAcknowledged r ts k a b = (length (out_before ts k) < given_more a.out b.out) 
 abbrev pub IsAtNumber : (ℕ → View) → ℕ → ℕ → View → Type 0
 IsAtNumber views last j u = (k : ℕ) × ((k ≡ j) ⊎ (k ≡ j + 1)) × (k ≤ last) × RecoversAs (views k) u
 
--- A call may begin on the disk: it is calm, and its view recovers as the folder does that is shown. Working files may differ,
+-- A call may begin on the disk: it is calm, and its view recovers as the folder does that is shown. Working files may
+-- differ,
 -- and recovery looks at those of a name that an intent names.
 pub record MayBegin (folder : Folder) (m : Model) : Type 0 where
   pub calm : IsCalm m
   pub recovers : RecoversAs (view_in folder) (view_of m)
 
 -- From a calm model on: where the call ends, as a list of steps from a folder on.
-pub record ListCrashPoints (w : List ℕ → Bool) (r : Result ℕ Fault) (folder : Folder) (ts : List NamedStep) (a b : Scene) (m : Model) (past : List Model) : Type 0 where
+pub record ListCrashPoints (w : List ℕ → Bool) (r : Result ℕ Fault) (folder : Folder) (ts : List NamedStep)
+    (a b : Scene) (m : Model) (past : List Model) : Type 0 where
   -- the number of the last moment
   pub number : ℕ
   pub most : number ≤ length ts
@@ -68,7 +73,8 @@ pub record ListCrashPoints (w : List ℕ → Bool) (r : Result ℕ Fault) (folde
   pub err : GivesSome a.err b.err (err_before ts number)
   -- at Ok all steps are counted
   pub all : IsOk r → number ≡ length ts
-  -- but at a disk fault the disk is calm, and so many steps are committed, while of the next one at most the l-file is new
+  -- but at a disk fault the disk is calm, and so many steps are committed, while of the next one at most the l-file is
+  -- new
   pub calm : r ≢ Err DiskFault → IsCalm (newest went.added m)
   pub committed : r ≢ Err DiskFault → ShowsEarly w (drop number ts) (seen b.told) (view_at folder ts number)
   pub recovers : r ≢ Err DiskFault → RecoversAs (view_at folder ts number) (view_of (newest went.added m))
@@ -100,14 +106,17 @@ pub record Spares (w : List ℕ → Bool) : Type 0 where
   pub z : (n : List ℕ) → IsSFileName n → w (z_file n) ≡ false
   pub intent : w intent_file ≡ false
 
--- The crash points of steps. The last number is at least that of each step that is acknowledged, and but at a disk fault the names that
+-- The crash points of steps. The last number is at least that of each step that is acknowledged, and but at a disk
+-- fault the names that
 -- were safe are safe again, after so many steps.
-pub record RunCrashPoints (x : Action) (w : List ℕ → Bool) (r : Result ℕ Fault) (folder : Folder) (ts : List NamedStep) (a b : Scene) (m : Model) (past : List Model) : Type 0 where
+pub record RunCrashPoints (x : Action) (w : List ℕ → Bool) (r : Result ℕ Fault) (folder : Folder) (ts : List NamedStep)
+    (a b : Scene) (m : Model) (past : List Model) : Type 0 where
   pub list : ListCrashPoints w r folder ts a b m past
   pub acknowledged : (k : ℕ) → k < length ts → IsAcknowledged r ts k (shown a) (shown b) → suc k ≤ list.number
   pub safe : r ≢ Err DiskFault → StaySafe x (view_in folder) (view_at folder ts list.number)
   -- the same of every s-file's name
   pub keeps : r ≢ Err DiskFault → KeepsSafe (view_in folder) (view_at folder ts list.number)
-  -- whatever a stop leaves, in it each s-file's name is safe that was safe in whatever one could leave at the start, so that the
+  -- whatever a stop leaves, in it each s-file's name is safe that was safe in whatever one could leave at the start, so
+  -- that the
   -- next run may begin there
   pub images : Each (Allows (KeepsSafeFrom m)) list.went.added m

@@ -6,4 +6,10 @@ abbrev pub ordinary : Action → Action
 ordinary x = record x { rule = Greatest }
 
 abbrev pub ordinary_keeps : (x : Action) → KeepsFiles x → KeepsFiles (ordinary x)
-ordinary_keeps x keeps = record { quiet = keeps.quiet; names = keeps.names; locked = keeps.locked; pending = keeps.pending }
+ordinary_keeps x keeps = record {
+  quiet = keeps.quiet;
+  names = keeps.names;
+  locked = keeps.locked;
+  pending =
+      keeps.pending;
+}

@@ -1,4 +1,5 @@
--- Steps that don't lock their names: they may begin on any disk whose s-files and p-files are firm, as a disk fault leaves it.
+-- Steps that don't lock their names: they may begin on any disk whose s-files and p-files are firm, as a disk fault
+-- leaves it.
 use Rattle.std.specs.Prelude.{◌≡◌, ◌≢◌, ℕ, ◌==◌, Bool, true, false, ◌&&◌, ◌||◌, List, [], ◌∷◌, OnOk, Result, Err, IsOk}
 use Rattle.sccs_base.specs.Name.{is_sfile_name}
 use Rattle.sccs_disk.specs.Files.{Folder, view_in}
@@ -34,13 +35,16 @@ has_made [] = false
 has_made (t ∷ ts) = (is_sfile_name t.name && t.effect.status == 0) || has_made ts
 
 -- What a call leaves of such a disk that makes steps; at Ok the disk is calm where some step is made.
-pub record RecoversSteps (x : Action) (steps : Folder → List ℕ → List NamedStep) (given : List ℕ → Type 0) (r : Result ℕ Fault) (old new : Told) : Type 0 where
+pub record RecoversSteps (x : Action) (steps : Folder → List ℕ → List NamedStep) (given : List ℕ → Type 0)
+    (r : Result ℕ Fault) (old new : Told) : Type 0 where
   pub story : RecoversOn old new
   pub firm : LeavesFirm old new
   pub calm : IsOk r → (w : List ℕ → Bool) (folder : Folder) (i : List ℕ)
-      → Spares w → AreClear x w (steps folder i) → Shows w (seen old) (view_in folder) → given i → has_made (steps folder i) ≡ true → LeavesCalm old new
+      → Spares w → AreClear x w (steps folder i) → Shows w (seen old) (view_in folder) → given i
+      → has_made (steps folder i) ≡ true → LeavesCalm old new
   pub keeps : r ≢ Err end.DiskFault → KeepsCalm old new
 
 -- the same, where the steps don't lock their names
-abbrev pub RecoversBy : Action → (Folder → List ℕ → List NamedStep) → (List ℕ → Type 0) → Result ℕ Fault → Told → Told → Type 0
+abbrev pub RecoversBy : Action → (Folder → List ℕ → List NamedStep) → (List ℕ → Type 0) → Result ℕ Fault → Told → Told
+    → Type 0
 RecoversBy x steps given r old new = x.locks ≡ false → RecoversSteps x steps given r old new

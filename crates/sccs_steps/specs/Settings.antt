@@ -13,14 +13,16 @@ pub record Setting : Type 0 where
   pub stage : Scene
   pub faults : Counts
 
-abbrev pub setting_of : {I O E D : Type 0} → SourceGhosts I → SinkGhosts O → SinkGhosts E → DiskGhosts D → I → O → E → D → Setting
+abbrev pub setting_of : {I O E D : Type 0} → SourceGhosts I → SinkGhosts O → SinkGhosts E → DiskGhosts D → I → O → E → D
+    → Setting
 setting_of i o e d input out err disk = record {
   left = i.left input;
   stage = scene (d.told disk) (o.given out) (e.given err);
   faults = counts (i.faults input) (o.faults out) (e.faults err) (d.faults disk);
 }
 
-abbrev pub setting : {I O E D : Type 0} → SourceGhosts I → SinkGhosts O → SinkGhosts E → DiskGhosts D → Streams I O E D → Setting
+abbrev pub setting : {I O E D : Type 0} → SourceGhosts I → SinkGhosts O → SinkGhosts E → DiskGhosts D → Streams I O E D
+    → Setting
 setting i o e d s = setting_of i o e d s.input.now s.out.now s.err.now s.disk.now
 
 -- they are lent from the same owners

@@ -18,18 +18,21 @@ SpeakAs rule ts (Ok status) err err2 = (status ≡ status_of rule ts) × GivesOk
 SpeakAs rule ts (Err fault) err err2 = GivesSome err err2 (err_of ts)
 
 -- some steps explain it: whole ones at Ok, and else some that were begun
-abbrev pub SpeakBy : StatusRule → (whole begun : List NamedStep → Type 0) → Result ℕ Fault → Option (List ℕ) → Option (List ℕ) → Type 0
+abbrev pub SpeakBy : StatusRule → (whole begun : List NamedStep → Type 0) → Result ℕ Fault → Option (List ℕ)
+    → Option (List ℕ) → Type 0
 SpeakBy rule whole begun (Ok status) err err2 = (ts : List NamedStep) × whole ts × SpeakAs rule ts (Ok status) err err2
 SpeakBy rule whole begun (Err fault) err err2 = (ts : List NamedStep) × begun ts × SpeakAs rule ts (Err fault) err err2
 
 -- steps of each of several things, in their order
 abbrev pub InTurn : (List ℕ → List NamedStep → Type 0) → List (List ℕ) → List NamedStep → Type 0
 InTurn whole [] ts = ts ≡ []
-InTurn whole (thing ∷ things) ts = (first : List NamedStep) × (rest : List NamedStep) × (ts ≡ first ++ rest) × whole thing first × InTurn whole things rest
+InTurn whole (thing ∷ things) ts = (first : List NamedStep) × (rest : List NamedStep) × (ts ≡ first ++ rest)
+    × whole thing first × InTurn whole things rest
 
 -- steps of the first of them, and the last of these is only begun; or none is
 abbrev pub BegunInTurn : (whole begun : List ℕ → List NamedStep → Type 0) → List (List ℕ) → List NamedStep → Type 0
-BegunInTurn whole begun things ts = (ts ≡ []) ⊎ ((done : List (List ℕ)) × (thing : List ℕ) × (rest : List (List ℕ)) × (first : List NamedStep) × (last : List NamedStep)
+BegunInTurn whole begun things ts = (ts ≡ []) ⊎ ((done : List (List ℕ)) × (thing : List ℕ) × (rest : List (List ℕ))
+    × (first : List NamedStep) × (last : List NamedStep)
     × (things ≡ done ++ thing ∷ rest) × (ts ≡ first ++ last) × InTurn whole done first × begun thing last)
 
 -- what may come of a name: one that isn't taken is refused, and else what may come of a step
@@ -53,10 +56,12 @@ IsTooLong kind ts = ⊥
 
 -- the steps of an operand of a kind that may come: of some names that it may stand for; and the first of them
 abbrev pub KindMakes : Action → OperandKind → List ℕ → List NamedStep → Type 0
-KindMakes x kind operand ts = ((names : List (List ℕ)) × MayStandFor x kind operand names × InTurn (NameMakes x) names ts) ⊎ IsTooLong kind ts
+KindMakes x kind operand ts = ((names : List (List ℕ)) × MayStandFor x kind operand names
+    × InTurn (NameMakes x) names ts) ⊎ IsTooLong kind ts
 
 abbrev pub KindBegins : Action → OperandKind → List ℕ → List NamedStep → Type 0
-KindBegins x kind operand ts = (ts ≡ []) ⊎ (((names : List (List ℕ)) × MayStandFor x kind operand names × BegunInTurn (NameMakes x) (NameMakes x) names ts) ⊎ IsTooLong kind ts)
+KindBegins x kind operand ts = (ts ≡ []) ⊎ (((names : List (List ℕ)) × MayStandFor x kind operand names
+    × BegunInTurn (NameMakes x) (NameMakes x) names ts) ⊎ IsTooLong kind ts)
 
 abbrev pub OperandMakes : Action → List ℕ → List NamedStep → Type 0
 OperandMakes x operand = KindMakes x (kind_of x.takes operand) operand
@@ -75,4 +80,5 @@ abbrev pub SpeaksKind : Action → OperandKind → List ℕ → Result ℕ Fault
 SpeaksKind x kind operand = SpeakBy x.rule (KindMakes x kind operand) (KindBegins x kind operand)
 
 abbrev pub SpeakAll : Action → List (List ℕ) → Result ℕ Fault → Option (List ℕ) → Option (List ℕ) → Type 0
-SpeakAll x operands = SpeakBy x.rule (InTurn (OperandMakes x) operands) (BegunInTurn (OperandMakes x) (OperandBegins x) operands)
+SpeakAll x operands = SpeakBy x.rule (InTurn (OperandMakes x) operands) (BegunInTurn (OperandMakes x)
+    (OperandBegins x) operands)

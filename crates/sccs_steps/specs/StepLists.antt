@@ -1,5 +1,6 @@
 -- Lists of steps: what they write and leave, and how a call that makes them ends.
-use Rattle.std.specs.Prelude.{◌≡◌, ◌⊎◌, ℕ, zero, suc, ◌<◌, Bool, true, false, ◌||◌, List, [], ◌∷◌, ◌++◌, length, flat_map, Option, None, Some, Result, Ok, Err}
+use Rattle.std.specs.Prelude.{◌≡◌, ◌⊎◌, ℕ, zero, suc, ◌<◌, Bool, true, false, ◌||◌, List, [], ◌∷◌, ◌++◌, length}
+use Rattle.std.specs.Prelude.{flat_map, Option, None, Some, Result, Ok, Err}
 use Rattle.std.specs.Str.{bytes_eq}
 use Rattle.sccs_base.specs.Name.{z_file}
 use Rattle.sccs_base.specs.Stream.{GivesOk, GivesSome}
@@ -84,7 +85,8 @@ AreAllCleared w None new = Unit {0}
 AreAllCleared w (Some u) None = ⊥
 AreAllCleared w (Some u) (Some v) = (k : List ℕ) → w k ≡ true → (v k ≡ None) ⊎ (v k ≡ u k)
 
--- All steps are made: out and err have all that they write, the disk shows the last folder, and the working files that they made
+-- All steps are made: out and err have all that they write, the disk shows the last folder, and the working files that
+-- they made
 -- are gone.
 pub record Ran (w : List ℕ → Bool) (m : Folder) (ts : List NamedStep) (a b : World) : Type 0 where
   pub view : Shows w b.view (view_in (folder_after m ts))
@@ -97,7 +99,8 @@ abbrev pub ShowsEarly : (List ℕ → Bool) → List NamedStep → Option View �
 ShowsEarly w [] told v = Shows w told v
 ShowsEarly w (t ∷ ts) told v = (first : Bool) × Shows w told (early_moved first v t.name t.effect.new)
 
--- Some steps are made, of the next one at most the l-file is new, and no byte of a later report is written; the working files that they and the next step made are gone.
+-- Some steps are made, of the next one at most the l-file is new, and no byte of a later report is written; the working
+-- files that they and the next step made are gone.
 pub record Stopped (w : List ℕ → Bool) (m : Folder) (ts : List NamedStep) (a b : World) : Type 0 where
   pub made : List NamedStep
   pub rest : List NamedStep
@@ -110,7 +113,8 @@ pub record Stopped (w : List ℕ → Bool) (m : Folder) (ts : List NamedStep) (a
 -- the z-file of a further name, and the plan and the intent of a step that has further names
 abbrev pub is_left_of : List Move → List ℕ → Bool
 is_left_of [] k = false
-is_left_of (x ∷ xs) k = is_left_of xs k || (bytes_eq (z_file x.name) k || (bytes_eq plan_file k || bytes_eq intent_file k))
+is_left_of (x ∷ xs) k = is_left_of xs k || (bytes_eq (z_file x.name) k || (bytes_eq plan_file k || bytes_eq intent_file
+    k))
 
 -- working files, and the z-files of the next step
 abbrev pub left_by : (List ℕ → Bool) → List NamedStep → List ℕ → Bool
@@ -126,7 +130,8 @@ first_moves (suc whole) some v (x ∷ xs) = first_moves whole some (moved v x.na
 -- what is told is a view, or that after some first files of the next step, but for its z-files
 abbrev pub ShowsNext : (List ℕ → Bool) → List NamedStep → Option View → View → Type 0
 ShowsNext w [] told v = Shows w told v
-ShowsNext w (t ∷ ts) told v = (whole : ℕ) × (some : ℕ) × Shows (left_by w (t ∷ ts)) told (first_moves whole some v (moves_of t))
+ShowsNext w (t ∷ ts) told v = (whole : ℕ) × (some : ℕ) × Shows (left_by w (t ∷ ts)) told (first_moves whole some v
+    (moves_of t))
 
 -- The same where the disk failed: of the next step some first of l-file, s-file, p-file and g-file are new.
 pub record ListInterrupted (w : List ℕ → Bool) (m : Folder) (ts : List NamedStep) (a b : World) : Type 0 where
@@ -153,7 +158,8 @@ Runs rule w (Ok status) m ts a b = (status ≡ status_of rule ts) × Ran w m ts 
 Runs rule w (Err fault) m ts a b = Stops w fault m ts a b
 
 -- Some of all the steps are made, and left says which are still to be made on the folder that they left.
-pub record SoFar (rule : StatusRule) (w : List ℕ → Bool) (m : Folder) (all : List NamedStep) (left : Folder → List NamedStep) (status : ℕ) (a b : World) : Type 0 where
+pub record SoFar (rule : StatusRule) (w : List ℕ → Bool) (m : Folder) (all : List NamedStep) (left : Folder
+    → List NamedStep) (status : ℕ) (a b : World) : Type 0 where
   pub made : List NamedStep
   pub is : all ≡ made ++ left (folder_after m made)
   pub code : status ≡ status_of rule made

@@ -1,4 +1,5 @@
--- Steps that change no s-file or p-file but one whose z-file wasn't there at an earlier moment, or that of their own name.
+-- Steps that change no s-file or p-file but one whose z-file wasn't there at an earlier moment, or that of their own
+-- name.
 use Rattle.std.specs.Prelude.{◌≡◌, ℕ, Bool, true, false, List, drop, IsSome}
 use Rattle.std.specs.List.{AllByRecursion}
 use Rattle.sccs_disk.specs.Files.{Model, view_of}
@@ -22,7 +23,8 @@ StepUnlocked x n old new = x.locks ≡ true → IsPlainFor x n → BeginsUnlocke
 
 -- a name that is held stays so where an intent names it
 abbrev pub KeepsNamed : List ℕ → Told → Told → Type 0
-KeepsNamed n old new = (m : Model) (past : List Model) → old ≡ Tells m past → IsSome (fate_at (view_of m) n) → IsHeldIn n m → KeptHeld n m past new
+KeepsNamed n old new = (m : Model) (past : List Model) → old ≡ Tells m past → IsSome (fate_at (view_of m) n)
+    → IsHeldIn n m → KeptHeld n m past new
 
 -- a step that changes files leaves the files of all other names; and its own stays held where an intent names it
 abbrev pub StepOthers : Action → List ℕ → Told → Told → Type 0
@@ -30,4 +32,5 @@ StepOthers x n old new = (x.reads ≡ false → KeepsOthers (is_own n) old new) 
 
 -- the names of steps that don't lock them are exempt
 abbrev pub AreExempt : Action → (List ℕ → Bool) → List NamedStep → Type 0
-AreExempt x exempt ts = AllByRecursion (λ (t : NamedStep). x.fits t.name ≡ true → x.locks ≡ false → exempt t.name ≡ true) ts
+AreExempt x exempt ts = AllByRecursion (λ (t : NamedStep). x.fits t.name ≡ true → x.locks ≡ false
+    → exempt t.name ≡ true) ts

@@ -35,7 +35,8 @@ pub fn conclude<E: Sink>(
 ) -> Result<u8, Fault>
     ensures concludes { Concludes made operand.now result (E.given err.old) (E.given err.new) }
     ensures later { E.faults err.old ≤ E.faults err.new }
-    ensures cause { result ≡ Err end.WriteFault → (made ≡ Err fault.WriteFault) × (E.faults err.new ≡ E.faults err.old) ⊎ Rose (E.faults err.old) (E.faults err.new) }
+    ensures cause { result ≡ Err end.WriteFault → (made ≡ Err fault.WriteFault) × (E.faults err.new ≡ E.faults err.old)
+        ⊎ Rose (E.faults err.old) (E.faults err.new) }
     ensures read { result ≡ Err end.ReadFault → made ≡ Err fault.ReadFault }
     ensures broke { result ≡ Err end.DiskFault → made ≡ Err fault.DiskFault }
 {
@@ -71,7 +72,8 @@ pub fn run_name<U: UtilityWithStatus, I: Source, O: Sink, E: Sink, D: Disk>(
     streams: &mut Streams<I, O, E, D>,
 ) -> Result<u8, Fault>
     ensures loans { SameLoans streams.old streams.new }
-    ensures run { RunsName (U.action utility.now) name.now result (setting I.Source O.Sink E.Sink D.Disk streams.old) (setting I.Source O.Sink E.Sink D.Disk streams.new) }
+    ensures run { RunsName (U.action utility.now) name.now result (setting I.Source O.Sink E.Sink D.Disk streams.old)
+        (setting I.Source O.Sink E.Sink D.Disk streams.new) }
 {
     let Some(file) = utility.name(name) else {
         return conclude(name, Err(StepFault::Refused(Refusal::BadName)), streams.err);
@@ -96,7 +98,8 @@ pub fn run_names<U: UtilityWithStatus, I: Source, O: Sink, E: Sink, D: Disk>(
 ) -> Result<u8, Fault>
     requires { (U.action utility.now).takes ≡ false }
     ensures loans { SameLoans streams.old streams.new }
-    ensures run { RunsNames (U.action utility.now) names.now result (setting I.Source O.Sink E.Sink D.Disk streams.old) (setting I.Source O.Sink E.Sink D.Disk streams.new) }
+    ensures run { RunsNames (U.action utility.now) names.now result (setting I.Source O.Sink E.Sink D.Disk streams.old)
+        (setting I.Source O.Sink E.Sink D.Disk streams.new) }
 {
     let mut status = idle_status(utility);
     for name in names {

@@ -55,7 +55,8 @@ fn run_here<U: UtilityWithStatus, I: Source, O: Sink, E: Sink, D: Disk>(
 ) -> Result<u8, Fault>
     requires { (U.action utility.now).takes ≡ false }
     ensures loans { SameLoans streams.old streams.new }
-    ensures run { RunsKind (U.action utility.now) kind.Here [] result (setting I.Source O.Sink E.Sink D.Disk streams.old) (setting I.Source O.Sink E.Sink D.Disk streams.new) }
+    ensures run { RunsKind (U.action utility.now) kind.Here [] result
+        (setting I.Source O.Sink E.Sink D.Disk streams.old) (setting I.Source O.Sink E.Sink D.Disk streams.new) }
 {
     match list_sfiles(alloc, streams.disk) {
         Ok(names) => run_names(alloc, utility, names.items(), streams),
@@ -90,7 +91,8 @@ fn run_lines<U: UtilityWithStatus, I: Source, O: Sink, E: Sink, D: Disk>(
 ) -> Result<u8, Fault>
     requires { (U.action utility.now).takes ≡ false }
     ensures loans { SameLoans streams.old streams.new }
-    ensures run { RunsLines (U.action utility.now) lines.now result (setting I.Source O.Sink E.Sink D.Disk streams.old) (setting I.Source O.Sink E.Sink D.Disk streams.new) }
+    ensures run { RunsLines (U.action utility.now) lines.now result (setting I.Source O.Sink E.Sink D.Disk streams.old)
+        (setting I.Source O.Sink E.Sink D.Disk streams.new) }
 {
     match names_among(alloc, utility, lines) {
         Ok(names) => run_names(alloc, utility, names.items(), streams),
@@ -106,7 +108,8 @@ fn run_input<U: UtilityWithStatus, I: Source, O: Sink, E: Sink, D: Disk>(
 ) -> Result<u8, Fault>
     requires { (U.action utility.now).takes ≡ false }
     ensures loans { SameLoans streams.old streams.new }
-    ensures run { RunsKind (U.action utility.now) kind.FromInput [] result (setting I.Source O.Sink E.Sink D.Disk streams.old) (setting I.Source O.Sink E.Sink D.Disk streams.new) }
+    ensures run { RunsKind (U.action utility.now) kind.FromInput [] result
+        (setting I.Source O.Sink E.Sink D.Disk streams.old) (setting I.Source O.Sink E.Sink D.Disk streams.new) }
 {
     match read_names(alloc, streams.input, FILE_LIMIT) {
         Ok(lines) => run_lines(alloc, utility, lines.items(), streams),
@@ -126,7 +129,8 @@ pub fn run_operand<U: UtilityWithStatus, I: Source, O: Sink, E: Sink, D: Disk>(
     streams: &mut Streams<I, O, E, D>,
 ) -> Result<u8, Fault>
     ensures loans { SameLoans streams.old streams.new }
-    ensures run { RunsOperand (U.action utility.now) operand.now result (setting I.Source O.Sink E.Sink D.Disk streams.old) (setting I.Source O.Sink E.Sink D.Disk streams.new) }
+    ensures run { RunsOperand (U.action utility.now) operand.now result
+        (setting I.Source O.Sink E.Sink D.Disk streams.old) (setting I.Source O.Sink E.Sink D.Disk streams.new) }
 {
     match kind_of(operand, utility.takes_input()) {
         OperandKind::Named => run_name(alloc, utility, operand, streams),
@@ -135,7 +139,8 @@ pub fn run_operand<U: UtilityWithStatus, I: Source, O: Sink, E: Sink, D: Disk>(
     }
 }
 
-/// Makes the steps of each operand in turn, and answers their status by the utility's rule. Where it begins on a calm disk
+/// Makes the steps of each operand in turn, and answers their status by the utility's rule. Where it begins on a calm
+/// disk
 /// and the names are safe, a stop at any moment leaves all names as after the same number of steps, no
 /// fewer than were acknowledged; and it ends on a calm disk, unless the disk failed.
 pub fn run_operands<U: UtilityWithStatus, I: Source, O: Sink, E: Sink, D: Disk>(
@@ -145,7 +150,8 @@ pub fn run_operands<U: UtilityWithStatus, I: Source, O: Sink, E: Sink, D: Disk>(
     streams: &mut Streams<I, O, E, D>,
 ) -> Result<u8, Fault>
     ensures loans { SameLoans streams.old streams.new }
-    ensures run { RunsOperands (U.action utility.now) operands.now result (setting I.Source O.Sink E.Sink D.Disk streams.old) (setting I.Source O.Sink E.Sink D.Disk streams.new) }
+    ensures run { RunsOperands (U.action utility.now) operands.now result
+        (setting I.Source O.Sink E.Sink D.Disk streams.old) (setting I.Source O.Sink E.Sink D.Disk streams.new) }
 {
     let mut status = idle_status(utility);
     for operand in operands {

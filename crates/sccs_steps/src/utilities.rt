@@ -60,7 +60,8 @@ pub trait Utility {
         ensures reads { (action self.now).reads ≡ true → D.told disk.new ≡ D.told disk.old }
         ensures silent { (action self.now).silent ≡ true → O.given out.new ≡ O.given out.old }
         ensures ignores { (action self.now).takes ≡ false
-            → Ignores step.ReadFault (I.left input.old) (I.left input.new) (I.faults input.old) (I.faults input.new) result }
+            → Ignores step.ReadFault (I.left input.old) (I.left input.new) (I.faults input.old) (I.faults input.new)
+            result }
         ensures causes { StepCauses result
             (counts (I.faults input.old) (O.faults out.old) (E.faults err.old) (D.faults disk.old))
             (counts (I.faults input.new) (O.faults out.new) (E.faults err.new) (D.faults disk.new)) };
@@ -87,7 +88,8 @@ pub trait UtilityWithStatus {
     fn rule(&self) -> StatusRule
         ensures { result ≡ (action self.now).rule };
 
-    /// Makes the step of one file, and answers its status: 0 where files are changed. Where it begins on a calm disk and the name is safe, a stop at any
+    /// Makes the step of one file, and answers its status: 0 where files are changed. Where it begins on a calm disk
+    /// and the name is safe, a stop at any
     /// moment leaves what recovers as before the step or as after it; and it ends on a calm disk, unless
     /// the disk failed. One that doesn't lock its name may begin on any disk whose s-files and p-files are
     /// firm: a stop leaves what recovers as something that one could leave at its start, they are firm at
@@ -105,18 +107,21 @@ pub trait UtilityWithStatus {
         ensures step { SteppedAs (λ (status : ℕ). status) (action self.now) result name.now (I.left input.old)
             (scene (D.told disk.old) (O.given out.old) (E.given err.old))
             (scene (D.told disk.new) (O.given out.new) (E.given err.new)) }
-        ensures crash_points { StepCrashPointsAs (λ (status : ℕ). status) (action self.now) result name.now (I.left input.old)
+        ensures crash_points { StepCrashPointsAs (λ (status : ℕ). status) (action self.now) result name.now
+            (I.left input.old)
             (scene (D.told disk.old) (O.given out.old) (E.given err.old))
             (scene (D.told disk.new) (O.given out.new) (E.given err.new)) }
         ensures unlocked { StepUnlocked (action self.now) name.now (D.told disk.old) (D.told disk.new) }
         ensures others { StepOthers (action self.now) name.now (D.told disk.old) (D.told disk.new) }
         ensures recovers { StepRecovers (action self.now) result (D.told disk.old) (D.told disk.new) }
-        ensures speaks { SpeaksByAs (λ (status : ℕ). status) (action self.now).could result name.now (E.given err.old) (E.given err.new) }
+        ensures speaks { SpeaksByAs (λ (status : ℕ). status) (action self.now).could result name.now (E.given err.old)
+            (E.given err.new) }
         ensures status { (action self.now).reads ≡ false → IfOk result (λ (status : ℕ). status ≡ 0) }
         ensures reads { (action self.now).reads ≡ true → D.told disk.new ≡ D.told disk.old }
         ensures silent { (action self.now).silent ≡ true → O.given out.new ≡ O.given out.old }
         ensures ignores { (action self.now).takes ≡ false
-            → Ignores step.ReadFault (I.left input.old) (I.left input.new) (I.faults input.old) (I.faults input.new) result }
+            → Ignores step.ReadFault (I.left input.old) (I.left input.new) (I.faults input.old) (I.faults input.new)
+            result }
         ensures causes { StepCauses result
             (counts (I.faults input.old) (O.faults out.old) (E.faults err.old) (D.faults disk.old))
             (counts (I.faults input.new) (O.faults out.new) (E.faults err.new) (D.faults disk.new)) };

@@ -16,6 +16,8 @@ same_content (Some c) = refl
 same_mark : (n : List ℕ) (v : View) → altered n (finished Writable) v ≡ v
 same_mark n v = ap (λ (o : Option Content). put v n o) (same_content (v n)) ∙ put_back v n
 
-pub mark_kept : (n : List ℕ) (mode : Mode) (o o2 : Option View) → mode ≡ Writable → Becomes (λ v. v) o o2 → Becomes (altered n (finished mode)) o o2
+pub mark_kept : (n : List ℕ) (mode : Mode) (o o2 : Option View) → mode ≡ Writable → Becomes (λ v. v) o o2
+    → Becomes (altered n (finished mode)) o o2
 mark_kept n mode o o2 is same =
-    subst (λ (x : Mode). Becomes (altered n (finished x)) o o2) (sym is) (becomes_as (λ v. v) (altered n (finished Writable)) o o2 (λ v. sym (same_mark n v)) same)
+    subst (λ (x : Mode). Becomes (altered n (finished x)) o o2) (sym is)
+    (becomes_as (λ v. v) (altered n (finished Writable)) o o2 (λ v. sym (same_mark n v)) same)

@@ -1,4 +1,5 @@
--- The y-file put in the place of the g-file or of the l-file: the calls, what they need so that a stop loses nothing, and what a
+-- The y-file put in the place of the g-file or of the l-file: the calls, what they need so that a stop loses nothing,
+-- and what a
 -- stop leaves.
 use Rattle.std.specs.Prelude.{◌≡◌, ◌⊎◌, ℕ, false, List, Option}
 use Rattle.std.specs.Str.{bytes_eq}
@@ -21,7 +22,8 @@ Places from to old new = (mid : Told) × Done (renaming from to) old mid × Done
 
 -- the first of the two calls failed, or the second
 abbrev pub HalfPlaces : List ℕ → List ℕ → Told → Told → Type 0
-HalfPlaces from to old new = Half (renaming from to) old new ⊎ ((mid : Told) × Done (renaming from to) old mid × Half syncing_names mid new)
+HalfPlaces from to old new = Half (renaming from to) old new ⊎ ((mid : Told) × Done (renaming from to) old mid
+    × Half syncing_names mid new)
 
 -- What the calls that make a y-file have done: no other file is touched, and it is firm.
 pub record HasMade (n : List ℕ) (old new : Told) : Type 0 where
@@ -58,8 +60,10 @@ EndsPlacing to new j m past t = (went : Went (IsPlacing to m new) m past j t) ×
 
 -- wherever it stops
 abbrev pub PlaceStops : List ℕ → List ℕ → Told → Told → Type 0
-PlaceStops n to old new = (m : Model) (past : List Model) → old ≡ Tells m past → CanPlace n to m → EndsPlacing to (view_of m (y_file n)) 0 m past new
+PlaceStops n to old new = (m : Model) (past : List Model) → old ≡ Tells m past → CanPlace n to m
+    → EndsPlacing to (view_of m (y_file n)) 0 m past new
 
 -- at its end, where each image has the new file
 abbrev pub PlaceEnds : List ℕ → List ℕ → Told → Told → Type 0
-PlaceEnds n to old new = (m : Model) (past : List Model) → old ≡ Tells m past → CanPlace n to m → EndsPlacing to (view_of m (y_file n)) 1 m past new
+PlaceEnds n to old new = (m : Model) (past : List Model) → old ≡ Tells m past → CanPlace n to m
+    → EndsPlacing to (view_of m (y_file n)) 1 m past new

@@ -36,7 +36,8 @@ abbrev pub Unlocks : List ℕ → Told → Told → Type 0
 Unlocks n old new = (mid : Told) × Done (removing n) old mid × Done syncing_names mid new
 
 abbrev pub HalfUnlocks : List ℕ → Told → Told → Type 0
-HalfUnlocks n old new = Half (removing n) old new ⊎ ((mid : Told) × Done (removing n) old mid × Half syncing_names mid new)
+HalfUnlocks n old new = Half (removing n) old new ⊎ ((mid : Told) × Done (removing n) old mid
+    × Half syncing_names mid new)
 
 -- ---- what a commit needs
 
@@ -83,7 +84,8 @@ pub record HasPrepared (n : List ℕ) (c : Plan) (old new : Told) : Type 0 where
 
 -- ---- what a stop leaves
 
--- Each image of each moment is one from before the commit, or recovers as the view after it; s-files and p-files are firm.
+-- Each image of each moment is one from before the commit, or recovers as the view after it; s-files and p-files are
+-- firm.
 abbrev pub CommitStops : List ℕ → Plan → Told → Told → Type 0
 CommitStops n c old new = (m : Model) (past : List Model) → old ≡ Tells m past → CanCommit n c m
     → (went : Went (IsNew m (committed n c (view_of m))) m past 0 new) × HasFirm (newest went.added m)
@@ -95,4 +97,5 @@ CommitEnds n c old new = (m : Model) (past : List Model) → old ≡ Tells m pas
 
 -- On a name that was locked already each image of each moment has the old s-files and p-files, and the disk is calm.
 abbrev pub KeepsHeld : List ℕ → Told → Told → Type 0
-KeepsHeld n old new = (m : Model) (past : List Model) → old ≡ Tells m past → IsCalm m → is_some (view_of m (z_file n)) ≡ true → EndsBefore (view_of m) m past new
+KeepsHeld n old new = (m : Model) (past : List Model) → old ≡ Tells m past → IsCalm m → is_some (view_of m (z_file n))
+    ≡ true → EndsBefore (view_of m) m past new

@@ -16,7 +16,8 @@ use sccs_disk::Disk;
 fn swap<D: Disk>(disk: &mut D, new: NewFile, from: &Name, to: &Name) -> Result<(), Failed>
     requires { Needs new from.now to.now (D.told disk.old) }
     ensures ok { OnOk result (Becomes (swapped new from.now to.now) (seen (D.told disk.old)) (seen (D.told disk.new))) }
-    ensures err { OnErr result (MayBecome (swapped new from.now to.now) (seen (D.told disk.old)) (seen (D.told disk.new))) }
+    ensures err { OnErr result (MayBecome (swapped new from.now to.now) (seen (D.told disk.old))
+        (seen (D.told disk.new))) }
     ensures done { OnOk result (Swaps new from.now to.now (D.told disk.old) (D.told disk.new)) }
     ensures half { OnErr result (HalfSwaps new from.now to.now (D.told disk.old) (D.told disk.new)) }
     ensures causes { DiskCauses (IsErr result) (D.faults disk.old) (D.faults disk.new) }
@@ -43,10 +44,13 @@ fn replaced(new_s: bool) -> NewFile
 fn swap_s<D: Disk>(disk: &mut D, new_s: bool, name: &Name) -> Result<(), Failed>
     requires sfile { IsSFileName name.now }
     requires needs { Needs (replaced new_s) (x_file name.now) name.now (D.told disk.old) }
-    ensures ok { OnOk result (Becomes (swapped (replaced new_s) (x_file name.now) name.now) (seen (D.told disk.old)) (seen (D.told disk.new))) }
-    ensures err { OnErr result (MayBecome (swapped (replaced new_s) (x_file name.now) name.now) (seen (D.told disk.old)) (seen (D.told disk.new))) }
+    ensures ok { OnOk result (Becomes (swapped (replaced new_s) (x_file name.now) name.now) (seen (D.told disk.old))
+        (seen (D.told disk.new))) }
+    ensures err { OnErr result (MayBecome (swapped (replaced new_s) (x_file name.now) name.now) (seen (D.told disk.old))
+        (seen (D.told disk.new))) }
     ensures done { OnOk result (Swaps (replaced new_s) (x_file name.now) name.now (D.told disk.old) (D.told disk.new)) }
-    ensures half { OnErr result (HalfSwaps (replaced new_s) (x_file name.now) name.now (D.told disk.old) (D.told disk.new)) }
+    ensures half { OnErr result (HalfSwaps (replaced new_s) (x_file name.now) name.now (D.told disk.old)
+        (D.told disk.new)) }
     ensures causes { DiskCauses (IsErr result) (D.faults disk.old) (D.faults disk.new) }
 {
     swap(disk, replaced(new_s), &name.sibling(b'x'), name)
@@ -56,10 +60,13 @@ fn swap_s<D: Disk>(disk: &mut D, new_s: bool, name: &Name) -> Result<(), Failed>
 fn swap_p<D: Disk>(disk: &mut D, new: NewFile, name: &Name) -> Result<(), Failed>
     requires sfile { IsSFileName name.now }
     requires needs { Needs new (q_file name.now) (p_file name.now) (D.told disk.old) }
-    ensures ok { OnOk result (Becomes (swapped new (q_file name.now) (p_file name.now)) (seen (D.told disk.old)) (seen (D.told disk.new))) }
-    ensures err { OnErr result (MayBecome (swapped new (q_file name.now) (p_file name.now)) (seen (D.told disk.old)) (seen (D.told disk.new))) }
+    ensures ok { OnOk result (Becomes (swapped new (q_file name.now) (p_file name.now)) (seen (D.told disk.old))
+        (seen (D.told disk.new))) }
+    ensures err { OnErr result (MayBecome (swapped new (q_file name.now) (p_file name.now)) (seen (D.told disk.old))
+        (seen (D.told disk.new))) }
     ensures done { OnOk result (Swaps new (q_file name.now) (p_file name.now) (D.told disk.old) (D.told disk.new)) }
-    ensures half { OnErr result (HalfSwaps new (q_file name.now) (p_file name.now) (D.told disk.old) (D.told disk.new)) }
+    ensures half { OnErr result (HalfSwaps new (q_file name.now) (p_file name.now) (D.told disk.old)
+        (D.told disk.new)) }
     ensures causes { DiskCauses (IsErr result) (D.faults disk.old) (D.faults disk.new) }
 {
     swap(disk, new, &name.sibling(b'q'), &name.sibling(b'p'))
@@ -69,10 +76,13 @@ fn swap_p<D: Disk>(disk: &mut D, new: NewFile, name: &Name) -> Result<(), Failed
 fn swap_g<D: Disk>(disk: &mut D, new: NewFile, name: &Name) -> Result<(), Failed>
     requires sfile { IsSFileName name.now }
     requires needs { Needs new (y_file name.now) (drop 2 name.now) (D.told disk.old) }
-    ensures ok { OnOk result (Becomes (swapped new (y_file name.now) (drop 2 name.now)) (seen (D.told disk.old)) (seen (D.told disk.new))) }
-    ensures err { OnErr result (MayBecome (swapped new (y_file name.now) (drop 2 name.now)) (seen (D.told disk.old)) (seen (D.told disk.new))) }
+    ensures ok { OnOk result (Becomes (swapped new (y_file name.now) (drop 2 name.now)) (seen (D.told disk.old))
+        (seen (D.told disk.new))) }
+    ensures err { OnErr result (MayBecome (swapped new (y_file name.now) (drop 2 name.now)) (seen (D.told disk.old))
+        (seen (D.told disk.new))) }
     ensures done { OnOk result (Swaps new (y_file name.now) (drop 2 name.now) (D.told disk.old) (D.told disk.new)) }
-    ensures half { OnErr result (HalfSwaps new (y_file name.now) (drop 2 name.now) (D.told disk.old) (D.told disk.new)) }
+    ensures half { OnErr result (HalfSwaps new (y_file name.now) (drop 2 name.now) (D.told disk.old)
+        (D.told disk.new)) }
     ensures causes { DiskCauses (IsErr result) (D.faults disk.old) (D.faults disk.new) }
 {
     swap(disk, new, &name.sibling(b'y'), &name.module())
@@ -82,8 +92,10 @@ fn swap_g<D: Disk>(disk: &mut D, new: NewFile, name: &Name) -> Result<(), Failed
 fn unlock<D: Disk>(disk: &mut D, name: &Name) -> Result<(), Failed>
     requires sfile { IsSFileName name.now }
     requires there { IsThere (z_file name.now) (D.told disk.old) }
-    ensures ok { OnOk result (Becomes (without_name (z_file name.now)) (seen (D.told disk.old)) (seen (D.told disk.new))) }
-    ensures err { OnErr result (MayBecome (without_name (z_file name.now)) (seen (D.told disk.old)) (seen (D.told disk.new))) }
+    ensures ok { OnOk result (Becomes (without_name (z_file name.now)) (seen (D.told disk.old))
+        (seen (D.told disk.new))) }
+    ensures err { OnErr result (MayBecome (without_name (z_file name.now)) (seen (D.told disk.old))
+        (seen (D.told disk.new))) }
     ensures done { OnOk result (Unlocks (z_file name.now) (D.told disk.old) (D.told disk.new)) }
     ensures half { OnErr result (HalfUnlocks (z_file name.now) (D.told disk.old) (D.told disk.new)) }
     ensures causes { DiskCauses (IsErr result) (D.faults disk.old) (D.faults disk.new) }
@@ -110,8 +122,10 @@ pub fn commit<D: Disk>(
     requires s { Needs (replaced new_s) (x_file name.now) name.now (D.told disk.old) }
     requires p { Needs new_p (q_file name.now) (p_file name.now) (D.told disk.old) }
     requires g { Needs new_g (y_file name.now) (drop 2 name.now) (D.told disk.old) }
-    ensures view { OnOk result (Becomes (committed name.now (plan new_s new_p new_g)) (seen (D.told disk.old)) (seen (D.told disk.new))) }
-    ensures halfway { OnErr result (IsPart name.now (plan new_s new_p new_g) (seen (D.told disk.old)) (seen (D.told disk.new))) }
+    ensures view { OnOk result (Becomes (committed name.now (plan new_s new_p new_g)) (seen (D.told disk.old))
+        (seen (D.told disk.new))) }
+    ensures halfway { OnErr result (IsPart name.now (plan new_s new_p new_g) (seen (D.told disk.old))
+        (seen (D.told disk.new))) }
     ensures stopped { OnErr result (CommitStops name.now (plan new_s new_p new_g) (D.told disk.old) (D.told disk.new)) }
     ensures calm { OnOk result (CommitEnds name.now (plan new_s new_p new_g) (D.told disk.old) (D.told disk.new)) }
     ensures others { KeepsOthers (is_own name.now) (D.told disk.old) (D.told disk.new) }

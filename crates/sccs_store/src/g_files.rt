@@ -32,7 +32,8 @@ pub fn is_writable_g<D: Disk>(disk: &mut D, name: &Name) -> Result<bool, Failed>
 fn place<D: Disk>(disk: &mut D, from: &Name, to: &Name) -> Result<(), Failed>
     requires { IsThere from.now (D.told disk.old) }
     ensures view { OnOk result (Becomes (renamed from.now to.now) (seen (D.told disk.old)) (seen (D.told disk.new))) }
-    ensures halfway { OnErr result (MayBecome (renamed from.now to.now) (seen (D.told disk.old)) (seen (D.told disk.new))) }
+    ensures halfway { OnErr result (MayBecome (renamed from.now to.now) (seen (D.told disk.old))
+        (seen (D.told disk.new))) }
     ensures done { OnOk result (Places from.now to.now (D.told disk.old) (D.told disk.new)) }
     ensures half { OnErr result (HalfPlaces from.now to.now (D.told disk.old) (D.told disk.new)) }
     ensures causes { DiskCauses (IsErr result) (D.faults disk.old) (D.faults disk.new) }
@@ -49,11 +50,14 @@ fn place<D: Disk>(disk: &mut D, from: &Name, to: &Name) -> Result<(), Failed>
 pub fn place_g<D: Disk>(disk: &mut D, name: &Name) -> Result<(), Failed>
     requires sfile { IsSFileName name.now }
     requires there { IsThere (y_file name.now) (D.told disk.old) }
-    ensures view { OnOk result (Becomes (renamed (y_file name.now) (drop 2 name.now)) (seen (D.told disk.old)) (seen (D.told disk.new))) }
-    ensures halfway { OnErr result (MayBecome (renamed (y_file name.now) (drop 2 name.now)) (seen (D.told disk.old)) (seen (D.told disk.new))) }
+    ensures view { OnOk result (Becomes (renamed (y_file name.now) (drop 2 name.now)) (seen (D.told disk.old))
+        (seen (D.told disk.new))) }
+    ensures halfway { OnErr result (MayBecome (renamed (y_file name.now) (drop 2 name.now)) (seen (D.told disk.old))
+        (seen (D.told disk.new))) }
     ensures stopped { OnErr result (PlaceStops name.now (drop 2 name.now) (D.told disk.old) (D.told disk.new)) }
     ensures calm { OnOk result (PlaceEnds name.now (drop 2 name.now) (D.told disk.old) (D.told disk.new)) }
-    ensures others { KeepsOthers (λ k. bytes_eq (y_file name.now) k || bytes_eq (drop 2 name.now) k) (D.told disk.old) (D.told disk.new) }
+    ensures others { KeepsOthers (λ k. bytes_eq (y_file name.now) k || bytes_eq (drop 2 name.now) k) (D.told disk.old)
+        (D.told disk.new) }
     ensures causes { DiskCauses (IsErr result) (D.faults disk.old) (D.faults disk.new) }
 {
     place(disk, &name.sibling(b'y'), &name.module())
@@ -63,11 +67,14 @@ pub fn place_g<D: Disk>(disk: &mut D, name: &Name) -> Result<(), Failed>
 pub fn place_l<D: Disk>(disk: &mut D, name: &Name) -> Result<(), Failed>
     requires sfile { IsSFileName name.now }
     requires there { IsThere (y_file name.now) (D.told disk.old) }
-    ensures view { OnOk result (Becomes (renamed (y_file name.now) (l_file name.now)) (seen (D.told disk.old)) (seen (D.told disk.new))) }
-    ensures halfway { OnErr result (MayBecome (renamed (y_file name.now) (l_file name.now)) (seen (D.told disk.old)) (seen (D.told disk.new))) }
+    ensures view { OnOk result (Becomes (renamed (y_file name.now) (l_file name.now)) (seen (D.told disk.old))
+        (seen (D.told disk.new))) }
+    ensures halfway { OnErr result (MayBecome (renamed (y_file name.now) (l_file name.now)) (seen (D.told disk.old))
+        (seen (D.told disk.new))) }
     ensures stopped { OnErr result (PlaceStops name.now (l_file name.now) (D.told disk.old) (D.told disk.new)) }
     ensures calm { OnOk result (PlaceEnds name.now (l_file name.now) (D.told disk.old) (D.told disk.new)) }
-    ensures others { KeepsOthers (λ k. bytes_eq (y_file name.now) k || bytes_eq (l_file name.now) k) (D.told disk.old) (D.told disk.new) }
+    ensures others { KeepsOthers (λ k. bytes_eq (y_file name.now) k || bytes_eq (l_file name.now) k) (D.told disk.old)
+        (D.told disk.new) }
     ensures causes { DiskCauses (IsErr result) (D.faults disk.old) (D.faults disk.new) }
 {
     place(disk, &name.sibling(b'y'), &name.sibling(b'l'))

@@ -24,12 +24,15 @@ pub fn y_files_are_made()
 /// as a stop could leave it at the start, or the new one; at its end, only the latter. The disk is calm. The
 /// same is so of any file into which a y-file is made, as an l-file.
 pub fn g_files_are_made_whole()
-    ensures before { (n to : List ℕ) (new : Option Content) (a b : Told) (m : Model) (past : List Model) → bytes_eq (y_file n) to ≡ false → IsSFileName n
+    ensures before { (n to : List ℕ) (new : Option Content) (a b : Told) (m : Model) (past : List Model)
+        → bytes_eq (y_file n) to ≡ false → IsSFileName n
         → a ≡ Tells m past → IsCalm m → TouchesOnly (bytes_eq (y_file n)) a b → EndsPlacing to new 0 m past b }
-    ensures within { (n to : List ℕ) (new : Option Content) (a b d : Told) (m : Model) (past : List Model) → bytes_eq (y_file n) to ≡ false → IsSFileName n
+    ensures within { (n to : List ℕ) (new : Option Content) (a b d : Told) (m : Model) (past : List Model)
+        → bytes_eq (y_file n) to ≡ false → IsSFileName n
         → a ≡ Tells m past → IsCalm m → is_kept to ≡ false → HasMade n a b
         → Leaves (λ m1. view_of m1 (y_file n) ≡ new) a b → PlaceStops n to b d → EndsPlacing to new 0 m past d }
-    ensures after { (n to : List ℕ) (new : Option Content) (a b d : Told) (m : Model) (past : List Model) → bytes_eq (y_file n) to ≡ false → IsSFileName n
+    ensures after { (n to : List ℕ) (new : Option Content) (a b d : Told) (m : Model) (past : List Model)
+        → bytes_eq (y_file n) to ≡ false → IsSFileName n
         → a ≡ Tells m past → IsCalm m → is_kept to ≡ false → HasMade n a b
         → Leaves (λ m1. view_of m1 (y_file n) ≡ new) a b → PlaceEnds n to b d → EndsPlacing to new 1 m past d }
     ensures pairs { (to : List ℕ) (new : Option Content) (j : ℕ) (m : Model) (past : List Model) (t : Told)

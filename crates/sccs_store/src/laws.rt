@@ -16,7 +16,8 @@ ghost use Rattle.sccs_store.specs.Stops.{CommitEnds, CommitStops, HasPrepared, I
 /// as it was, or as the commit makes it.
 pub fn commits_place_their_files()
     ensures whole { (n : List ℕ) (c : Plan) (u v : View) (k : List ℕ) → IsSFileName n → is_working n k ≡ false
-        → (bytes_eq (l_file n) k ≡ false → bytes_eq (z_file n) k ≡ false → u k ≡ v k) → committed n c u k ≡ placed v n (files_after n c u) k }
+        → (bytes_eq (l_file n) k ≡ false → bytes_eq (z_file n) k ≡ false → u k ≡ v k) → committed n c u k ≡ placed v n
+        (files_after n c u) k }
     ensures parts { (n : List ℕ) (c : Plan) (u v : View) (k : List ℕ) (i : ℕ) → IsSFileName n → is_working n k ≡ false
         → bytes_eq (z_file n) k ≡ false → u k ≡ v k
         → (part_of n c i u k ≡ v k) ⊎ (part_of n c i u k ≡ placed v n (files_after n c u) k) }
@@ -27,7 +28,8 @@ pub fn commits_place_their_files()
 /// calm; in it each recovers as before the step or as after it; after it as after the step, and the disk
 /// is calm.
 pub fn steps_are_made_whole()
-    ensures before { (n : List ℕ) (a b : Told) (m : Model) (past : List Model) → IsSFileName n → a ≡ Tells m past → IsCalm m
+    ensures before { (n : List ℕ) (a b : Told) (m : Model) (past : List Model) → IsSFileName n → a ≡ Tells m past
+        → IsCalm m
         → IsSound n (view_of m) → KeepsOthers (is_early n) a b → EndsBefore (view_of m) m past b }
     ensures within { (n : List ℕ) (c : Plan) (a b d : Told) (m : Model) (past : List Model) (w : View) → IsSFileName n
         → a ≡ Tells m past → IsCalm m → IsSound n (view_of m) → IsPlainPlan n c → HasPrepared n c a b

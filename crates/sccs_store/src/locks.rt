@@ -31,7 +31,8 @@ pub fn lock<D: Disk>(disk: &mut D, name: &Name) -> Result<(), LockFault>
         → IfSome (seen (D.told disk.old)) (λ (v : View). IsSome (v (z_file name.now))) }
     ensures same { IsErrOf result LockFault.Locked → D.told disk.new ≡ D.told disk.old }
     ensures memory { IsErrOf result LockFault.Memory → D.told disk.new ≡ D.told disk.old }
-    ensures view_err { OnErr result (Moves (bytes_eq (z_file name.now)) (λ v. v) (seen (D.told disk.old)) (seen (D.told disk.new))) }
+    ensures view_err { OnErr result (Moves (bytes_eq (z_file name.now)) (λ v. v) (seen (D.told disk.old))
+        (seen (D.told disk.new))) }
     ensures touches { TouchesOnly (bytes_eq (z_file name.now)) (D.told disk.old) (D.told disk.new) }
     ensures held { IsErrOf result LockFault.Failed → KeepsHeld name.now (D.told disk.old) (D.told disk.new) }
     ensures stays { IsErrOf result LockFault.Failed → KeepsHeldIn name.now (D.told disk.old) (D.told disk.new) }

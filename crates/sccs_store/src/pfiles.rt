@@ -24,7 +24,8 @@ use sccs_pfile::{Edits, write_edits};
 fn append_edits<D: Disk>(edits: &Edits, disk: &mut D, name: &Name) -> Result<(), DiskRefusal>
     requires there { IsThere name.now (D.told disk.old) }
     requires edits { All IsEdit edits.now }
-    ensures view { OnOk result (Becomes (altered name.now (appended (edits_text edits.now))) (seen (D.told disk.old)) (seen (D.told disk.new))) }
+    ensures view { OnOk result (Becomes (altered name.now (appended (edits_text edits.now))) (seen (D.told disk.old))
+        (seen (D.told disk.new))) }
     ensures only { OnlyWrites name.now (D.told disk.old) (D.told disk.new) }
     ensures firm { OnOk result (Leaves (IsFirm name.now) (D.told disk.old) (D.told disk.new)) }
     ensures causes { DiskCauses (IsErrOf result DiskRefusal.Failed) (D.faults disk.old) (D.faults disk.new) }
@@ -41,7 +42,8 @@ fn append_q<D: Disk>(edits: &Edits, disk: &mut D, name: &Name) -> Result<(), Dis
     requires sfile { IsSFileName name.now }
     requires there { IsThere (q_file name.now) (D.told disk.old) }
     requires edits { All IsEdit edits.now }
-    ensures view { OnOk result (Becomes (altered (q_file name.now) (appended (edits_text edits.now))) (seen (D.told disk.old)) (seen (D.told disk.new))) }
+    ensures view { OnOk result (Becomes (altered (q_file name.now) (appended (edits_text edits.now)))
+        (seen (D.told disk.old)) (seen (D.told disk.new))) }
     ensures only { OnlyWrites (q_file name.now) (D.told disk.old) (D.told disk.new) }
     ensures firm { OnOk result (Leaves (IsFirm (q_file name.now)) (D.told disk.old) (D.told disk.new)) }
     ensures causes { DiskCauses (IsErrOf result DiskRefusal.Failed) (D.faults disk.old) (D.faults disk.new) }
@@ -54,8 +56,10 @@ fn append_q<D: Disk>(edits: &Edits, disk: &mut D, name: &Name) -> Result<(), Dis
 pub fn prepare_p<D: Disk>(edits: &Edits, disk: &mut D, name: &Name) -> Result<(), DiskRefusal>
     requires sfile { IsSFileName name.now }
     requires edits { All IsEdit edits.now }
-    ensures view { OnOk result (Becomes (λ v. put v (q_file name.now) (Some (written_pfile edits.now))) (seen (D.told disk.old)) (seen (D.told disk.new))) }
-    ensures view_err { OnErr result (Moves (bytes_eq (q_file name.now)) (λ v. v) (seen (D.told disk.old)) (seen (D.told disk.new))) }
+    ensures view { OnOk result (Becomes (λ v. put v (q_file name.now) (Some (written_pfile edits.now)))
+        (seen (D.told disk.old)) (seen (D.told disk.new))) }
+    ensures view_err { OnErr result (Moves (bytes_eq (q_file name.now)) (λ v. v) (seen (D.told disk.old))
+        (seen (D.told disk.new))) }
     ensures touches { TouchesOnly (bytes_eq (q_file name.now)) (D.told disk.old) (D.told disk.new) }
     ensures firm { OnOk result (Leaves (IsFirm (q_file name.now)) (D.told disk.old) (D.told disk.new)) }
     ensures causes { DiskCauses (IsErrOf result DiskRefusal.Failed) (D.faults disk.old) (D.faults disk.new) }

@@ -21,7 +21,8 @@ use sccs_writers::five_digits;
 // removes a file where it is there
 fn clear<D: Disk>(disk: &mut D, name: &Name) -> Result<(), Failed>
     ensures view { OnOk result (Becomes (without_name name.now) (seen (D.told disk.old)) (seen (D.told disk.new))) }
-    ensures view_err { OnErr result (Moves (bytes_eq name.now) (λ v. v) (seen (D.told disk.old)) (seen (D.told disk.new))) }
+    ensures view_err { OnErr result (Moves (bytes_eq name.now) (λ v. v) (seen (D.told disk.old))
+        (seen (D.told disk.new))) }
     ensures touches { TouchesOnly (bytes_eq name.now) (D.told disk.old) (D.told disk.new) }
     ensures causes { DiskCauses (IsErr result) (D.faults disk.old) (D.faults disk.new) }
 {
@@ -34,8 +35,10 @@ fn clear<D: Disk>(disk: &mut D, name: &Name) -> Result<(), Failed>
 
 // Makes an empty file. One that has come there since is another program's, and is left alone.
 fn make<D: Disk>(disk: &mut D, name: &Name) -> Result<(), DiskRefusal>
-    ensures view { OnOk result (Becomes (λ v. put v name.now (Some empty_file)) (seen (D.told disk.old)) (seen (D.told disk.new))) }
-    ensures view_err { OnErr result (Moves (bytes_eq name.now) (λ v. v) (seen (D.told disk.old)) (seen (D.told disk.new))) }
+    ensures view { OnOk result (Becomes (λ v. put v name.now (Some empty_file)) (seen (D.told disk.old))
+        (seen (D.told disk.new))) }
+    ensures view_err { OnErr result (Moves (bytes_eq name.now) (λ v. v) (seen (D.told disk.old))
+        (seen (D.told disk.new))) }
     ensures touches { TouchesOnly (bytes_eq name.now) (D.told disk.old) (D.told disk.new) }
     ensures own { OnOk result (Leaves (IsOwn name.now) (D.told disk.old) (D.told disk.new)) }
     ensures causes { DiskCauses (IsErrOf result DiskRefusal.Failed) (D.faults disk.old) (D.faults disk.new) }
@@ -49,8 +52,10 @@ fn make<D: Disk>(disk: &mut D, name: &Name) -> Result<(), DiskRefusal>
 
 /// Makes an empty file. One that is there is removed first.
 pub fn renew<D: Disk>(disk: &mut D, name: &Name) -> Result<(), DiskRefusal>
-    ensures view { OnOk result (Becomes (λ v. put v name.now (Some empty_file)) (seen (D.told disk.old)) (seen (D.told disk.new))) }
-    ensures view_err { OnErr result (Moves (bytes_eq name.now) (λ v. v) (seen (D.told disk.old)) (seen (D.told disk.new))) }
+    ensures view { OnOk result (Becomes (λ v. put v name.now (Some empty_file)) (seen (D.told disk.old))
+        (seen (D.told disk.new))) }
+    ensures view_err { OnErr result (Moves (bytes_eq name.now) (λ v. v) (seen (D.told disk.old))
+        (seen (D.told disk.new))) }
     ensures touches { TouchesOnly (bytes_eq name.now) (D.told disk.old) (D.told disk.new) }
     ensures own { OnOk result (Leaves (IsOwn name.now) (D.told disk.old) (D.told disk.new)) }
     ensures causes { DiskCauses (IsErrOf result DiskRefusal.Failed) (D.faults disk.old) (D.faults disk.new) }
@@ -67,8 +72,10 @@ pub fn start<D: Disk>(disk: &mut D, name: &Name, letter: u8) -> Result<(), DiskR
     requires sfile { IsSFileName name.now }
     requires low { 97 ≤ letter }
     requires high { letter ≤ 122 }
-    ensures view { OnOk result (Becomes (λ v. put v (sibling letter name.now) (Some empty_file)) (seen (D.told disk.old)) (seen (D.told disk.new))) }
-    ensures view_err { OnErr result (Moves (bytes_eq (sibling letter name.now)) (λ v. v) (seen (D.told disk.old)) (seen (D.told disk.new))) }
+    ensures view { OnOk result (Becomes (λ v. put v (sibling letter name.now) (Some empty_file))
+        (seen (D.told disk.old)) (seen (D.told disk.new))) }
+    ensures view_err { OnErr result (Moves (bytes_eq (sibling letter name.now)) (λ v. v) (seen (D.told disk.old))
+        (seen (D.told disk.new))) }
     ensures touches { TouchesOnly (bytes_eq (sibling letter name.now)) (D.told disk.old) (D.told disk.new) }
     ensures own { OnOk result (Leaves (IsOwn (sibling letter name.now)) (D.told disk.old) (D.told disk.new)) }
     ensures causes { DiskCauses (IsErrOf result DiskRefusal.Failed) (D.faults disk.old) (D.faults disk.new) }
@@ -79,7 +86,8 @@ pub fn start<D: Disk>(disk: &mut D, name: &Name, letter: u8) -> Result<(), DiskR
 /// Takes the mark writable from a file and syncs it.
 pub fn seal<D: Disk>(disk: &mut D, name: &Name) -> Result<(), Failed>
     requires { IsThere name.now (D.told disk.old) }
-    ensures view { OnOk result (Becomes (altered name.now protected) (seen (D.told disk.old)) (seen (D.told disk.new))) }
+    ensures view { OnOk result (Becomes (altered name.now protected) (seen (D.told disk.old))
+        (seen (D.told disk.new))) }
     ensures only { OnlyWrites name.now (D.told disk.old) (D.told disk.new) }
     ensures firm { OnOk result (Leaves (IsFirm name.now) (D.told disk.old) (D.told disk.new)) }
     ensures causes { DiskCauses (IsErr result) (D.faults disk.old) (D.faults disk.new) }
@@ -93,7 +101,8 @@ pub fn seal<D: Disk>(disk: &mut D, name: &Name) -> Result<(), Failed>
 // puts the digits of a sum into the sum line of a file, protects the file and syncs it
 fn write_sum<D: Disk>(disk: &mut D, name: &Name, sum: u16) -> Result<(), DiskRefusal>
     requires { HasRange name.now 2 5 (D.told disk.old) }
-    ensures view { OnOk result (Becomes (altered name.now (with_sum_line sum)) (seen (D.told disk.old)) (seen (D.told disk.new))) }
+    ensures view { OnOk result (Becomes (altered name.now (with_sum_line sum)) (seen (D.told disk.old))
+        (seen (D.told disk.new))) }
     ensures only { OnlyWrites name.now (D.told disk.old) (D.told disk.new) }
     ensures firm { OnOk result (Leaves (IsFirm name.now) (D.told disk.old) (D.told disk.new)) }
     ensures causes { DiskCauses (IsErrOf result DiskRefusal.Failed) (D.faults disk.old) (D.faults disk.new) }
@@ -111,7 +120,8 @@ fn write_sum<D: Disk>(disk: &mut D, name: &Name, sum: u16) -> Result<(), DiskRef
 pub fn finish_x<D: Disk>(disk: &mut D, name: &Name, sum: &Sum) -> Result<(), DiskRefusal>
     requires sfile { IsSFileName name.now }
     requires there { HasRange (x_file name.now) 2 5 (D.told disk.old) }
-    ensures view { OnOk result (Becomes (altered (x_file name.now) (with_sum_line sum.now.0)) (seen (D.told disk.old)) (seen (D.told disk.new))) }
+    ensures view { OnOk result (Becomes (altered (x_file name.now) (with_sum_line sum.now.0)) (seen (D.told disk.old))
+        (seen (D.told disk.new))) }
     ensures only { OnlyWrites (x_file name.now) (D.told disk.old) (D.told disk.new) }
     ensures firm { OnOk result (Leaves (IsFirm (x_file name.now)) (D.told disk.old) (D.told disk.new)) }
     ensures causes { DiskCauses (IsErrOf result DiskRefusal.Failed) (D.faults disk.old) (D.faults disk.new) }
@@ -124,8 +134,10 @@ pub fn clear_sibling<D: Disk>(disk: &mut D, name: &Name, letter: u8) -> Result<(
     requires sfile { IsSFileName name.now }
     requires low { 97 ≤ letter }
     requires high { letter ≤ 122 }
-    ensures view { OnOk result (Becomes (without_name (sibling letter name.now)) (seen (D.told disk.old)) (seen (D.told disk.new))) }
-    ensures view_err { OnErr result (Moves (bytes_eq (sibling letter name.now)) (λ v. v) (seen (D.told disk.old)) (seen (D.told disk.new))) }
+    ensures view { OnOk result (Becomes (without_name (sibling letter name.now)) (seen (D.told disk.old))
+        (seen (D.told disk.new))) }
+    ensures view_err { OnErr result (Moves (bytes_eq (sibling letter name.now)) (λ v. v) (seen (D.told disk.old))
+        (seen (D.told disk.new))) }
     ensures touches { TouchesOnly (bytes_eq (sibling letter name.now)) (D.told disk.old) (D.told disk.new) }
     ensures causes { DiskCauses (IsErr result) (D.faults disk.old) (D.faults disk.new) }
 {
@@ -136,7 +148,8 @@ pub fn clear_sibling<D: Disk>(disk: &mut D, name: &Name, letter: u8) -> Result<(
 pub fn clear_working<D: Disk>(disk: &mut D, name: &Name) -> Result<(), Failed>
     requires { IsSFileName name.now }
     ensures view { OnOk result (Becomes (cleared name.now) (seen (D.told disk.old)) (seen (D.told disk.new))) }
-    ensures view_err { OnErr result (Moves (is_working name.now) (λ v. v) (seen (D.told disk.old)) (seen (D.told disk.new))) }
+    ensures view_err { OnErr result (Moves (is_working name.now) (λ v. v) (seen (D.told disk.old))
+        (seen (D.told disk.new))) }
     ensures touches { TouchesOnly (is_working name.now) (D.told disk.old) (D.told disk.new) }
     ensures causes { DiskCauses (IsErr result) (D.faults disk.old) (D.faults disk.new) }
 {
@@ -149,7 +162,8 @@ pub fn clear_working<D: Disk>(disk: &mut D, name: &Name) -> Result<(), Failed>
 pub fn abandon<D: Disk>(disk: &mut D, name: &Name) -> Result<(), Failed>
     requires { IsSFileName name.now }
     ensures view { OnOk result (Becomes (abandoned name.now) (seen (D.told disk.old)) (seen (D.told disk.new))) }
-    ensures view_err { OnErr result (Moves (is_left name.now) (λ v. v) (seen (D.told disk.old)) (seen (D.told disk.new))) }
+    ensures view_err { OnErr result (Moves (is_left name.now) (λ v. v) (seen (D.told disk.old))
+        (seen (D.told disk.new))) }
     ensures touches { TouchesOnly (is_left name.now) (D.told disk.old) (D.told disk.new) }
     ensures causes { DiskCauses (IsErr result) (D.faults disk.old) (D.faults disk.new) }
 {

@@ -18,7 +18,8 @@ use sccs_disk::Disk;
 // syncs a file, with its mark as it is to be
 fn finish<D: Disk>(disk: &mut D, name: &Name, mode: Mode) -> Result<(), Failed>
     requires { IsThere name.now (D.told disk.old) }
-    ensures view { OnOk result (Becomes (altered name.now (finished mode)) (seen (D.told disk.old)) (seen (D.told disk.new))) }
+    ensures view { OnOk result (Becomes (altered name.now (finished mode)) (seen (D.told disk.old))
+        (seen (D.told disk.new))) }
     ensures only { OnlyWrites name.now (D.told disk.old) (D.told disk.new) }
     ensures firm { OnOk result (Leaves (IsFirm name.now) (D.told disk.old) (D.told disk.new)) }
     ensures causes { DiskCauses (IsErr result) (D.faults disk.old) (D.faults disk.new) }
@@ -34,7 +35,8 @@ fn finish<D: Disk>(disk: &mut D, name: &Name, mode: Mode) -> Result<(), Failed>
 pub fn finish_y<D: Disk>(disk: &mut D, name: &Name, mode: Mode) -> Result<(), Failed>
     requires sfile { IsSFileName name.now }
     requires there { IsThere (y_file name.now) (D.told disk.old) }
-    ensures view { OnOk result (Becomes (altered (y_file name.now) (finished mode)) (seen (D.told disk.old)) (seen (D.told disk.new))) }
+    ensures view { OnOk result (Becomes (altered (y_file name.now) (finished mode)) (seen (D.told disk.old))
+        (seen (D.told disk.new))) }
     ensures only { OnlyWrites (y_file name.now) (D.told disk.old) (D.told disk.new) }
     ensures firm { OnOk result (Leaves (IsFirm (y_file name.now)) (D.told disk.old) (D.told disk.new)) }
     ensures causes { DiskCauses (IsErr result) (D.faults disk.old) (D.faults disk.new) }

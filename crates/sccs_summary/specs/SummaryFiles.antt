@@ -32,7 +32,8 @@ is_summary n k = bytes_eq (y_file n) k || bytes_eq (l_file n) k
 
 -- from a calm disk on, a stop leaves every s-file and p-file, and the disk is calm
 abbrev pub LosesNothing : Told → Told → Type 0
-LosesNothing old new = (m : Model) (past : List Model) → old ≡ Tells m past → IsCalm m → EndsBefore (view_of m) m past new
+LosesNothing old new = (m : Model) (past : List Model) → old ≡ Tells m past → IsCalm m
+    → EndsBefore (view_of m) m past new
 
 -- It fails only where the disk did, or for want of memory.
 pub record FileCauses {T : Type 0} (faults faults_after : ℕ) (result : Result T StepFault) : Type 0 where

@@ -1,7 +1,8 @@
 ghost use Rattle.std.specs.Prelude.{◌≡◌, ◌∷◌, ◌++◌, [], IfOk, OnOk, option_map};
 ghost use Rattle.sccs_history.specs.History.{HasSpelling};
 ghost use Rattle.sccs_history.specs.Numbers.{has};
-ghost use Rattle.sccs_summary.specs.Summaries.{choice_of, entry_text, front_text, is_late, live_text, marks, reason, tabbed};
+ghost use Rattle.sccs_summary.specs.Summaries.{choice_of, entry_text, front_text, is_late, live_text, marks, reason};
+ghost use Rattle.sccs_summary.specs.Summaries.{tabbed};
 
 use crate::choices::Choices;
 use sccs_base::{Bytes, Line, Memory};

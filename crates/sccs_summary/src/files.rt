@@ -16,7 +16,8 @@ ghost use Rattle.sccs_store.specs.Commits.{Becomes};
 ghost use Rattle.sccs_writers.specs.OneFile.{OnlyWrites};
 ghost use Rattle.sccs_writers.specs.Puts.{Appends, PutsText};
 ghost use Rattle.sccs_summary.specs.Summaries.{choice_of, live_text, summary_text};
-ghost use Rattle.sccs_summary.specs.SummaryFiles.{FileCauses, LosesNothing, MakesPartly, is_summary, l_made, summary_file};
+ghost use Rattle.sccs_summary.specs.SummaryFiles.{FileCauses, LosesNothing, MakesPartly, is_summary, l_made};
+ghost use Rattle.sccs_summary.specs.SummaryFiles.{summary_file};
 
 use crate::choices::Choices;
 use crate::entries::entry_of;
@@ -58,7 +59,8 @@ fn put_entries<D: Disk>(
 ) -> Result<(), DiskRefusal>
     requires there { IsThere to.old.name (D.told disk.old) }
     requires spelled { AllByRecursion HasSpelling records.now }
-    ensures { PutsText (summary_text (choice_of choices.entry) records.now) to.old to.new (D.told disk.old) (D.told disk.new)
+    ensures { PutsText (summary_text (choice_of choices.entry) records.now) to.old to.new (D.told disk.old)
+        (D.told disk.new)
         (D.faults disk.old) (D.faults disk.new) result }
 {
     for delta in records {
@@ -79,7 +81,8 @@ fn append_summary<D: Disk>(
 ) -> Result<(), DiskRefusal>
     requires there { IsThere to.now (D.told disk.old) }
     requires spelled { AllByRecursion HasSpelling records.now }
-    ensures file { OnOk result (Appends to.now (summary_text (choice_of choices.entry) records.now) (D.told disk.old) (D.told disk.new)) }
+    ensures file { OnOk result (Appends to.now (summary_text (choice_of choices.entry) records.now) (D.told disk.old)
+        (D.told disk.new)) }
     ensures only { OnlyWrites to.now (D.told disk.old) (D.told disk.new) }
     ensures causes { DiskCauses (IsErrOf result DiskRefusal.Failed) (D.faults disk.old) (D.faults disk.new) }
 {
@@ -101,7 +104,9 @@ fn append_y<D: Disk>(
     requires sfile { IsSFileName name.now }
     requires there { IsThere (y_file name.now) (D.told disk.old) }
     requires spelled { AllByRecursion HasSpelling records.now }
-    ensures view { OnOk result (Becomes (altered (y_file name.now) (appended (summary_text (choice_of choices.entry) records.now))) (seen (D.told disk.old)) (seen (D.told disk.new))) }
+    ensures view { OnOk result
+        (Becomes (altered (y_file name.now) (appended (summary_text (choice_of choices.entry) records.now)))
+        (seen (D.told disk.old)) (seen (D.told disk.new))) }
     ensures only { OnlyWrites (y_file name.now) (D.told disk.old) (D.told disk.new) }
     ensures causes { DiskCauses (IsErrOf result DiskRefusal.Failed) (D.faults disk.old) (D.faults disk.new) }
 {
@@ -118,7 +123,10 @@ fn make_y<D: Disk>(
 ) -> Result<(), DiskRefusal>
     requires sfile { IsSFileName name.now }
     requires spelled { AllByRecursion HasSpelling records.now }
-    ensures view { OnOk result (Becomes (λ v. put v (y_file name.now) (Some (summary_file (summary_text (choice_of choices.entry) records.now)))) (seen (D.told disk.old)) (seen (D.told disk.new))) }
+    ensures view { OnOk result
+        (Becomes (λ v. put v (y_file name.now)
+        (Some (summary_file (summary_text (choice_of choices.entry) records.now)))) (seen (D.told disk.old))
+        (seen (D.told disk.new))) }
     ensures moves { Moves (bytes_eq (y_file name.now)) (λ v. v) (seen (D.told disk.old)) (seen (D.told disk.new)) }
     ensures touches { TouchesOnly (bytes_eq (y_file name.now)) (D.told disk.old) (D.told disk.new) }
     ensures made { OnOk result (HasMade name.now (D.told disk.old) (D.told disk.new)) }
@@ -143,8 +151,10 @@ pub fn make_l<D: Disk>(
 ) -> Result<(), StepFault>
     requires sfile { IsSFileName name.now }
     requires spelled { AllByRecursion HasSpelling records.now }
-    ensures view { OnOk result (Becomes (l_made name.now (summary_text (choice_of choices.entry) records.now)) (seen (D.told disk.old)) (seen (D.told disk.new))) }
-    ensures halfway { OnErr result (MakesPartly name.now (summary_text (choice_of choices.entry) records.now) (seen (D.told disk.old)) (seen (D.told disk.new))) }
+    ensures view { OnOk result (Becomes (l_made name.now (summary_text (choice_of choices.entry) records.now))
+        (seen (D.told disk.old)) (seen (D.told disk.new))) }
+    ensures halfway { OnErr result (MakesPartly name.now (summary_text (choice_of choices.entry) records.now)
+        (seen (D.told disk.old)) (seen (D.told disk.new))) }
     ensures stops { LosesNothing (D.told disk.old) (D.told disk.new) }
     ensures others { KeepsOthers (is_summary name.now) (D.told disk.old) (D.told disk.new) }
     ensures causes { FileCauses (D.faults disk.old) (D.faults disk.new) result }

@@ -20,7 +20,8 @@ fn give_entry<O: Sink>(
     out: &mut O,
 ) -> Result<(), StepFault>
     requires { HasSpelling delta.now }
-    ensures gives { Prints None (live_text (choice_of choices.entry) delta.now) result (O.given out.old) (O.given out.new) }
+    ensures gives { Prints None (live_text (choice_of choices.entry) delta.now) result (O.given out.old)
+        (O.given out.new) }
     ensures causes { (disk : ℕ) → PrintCauses result (O.faults out.old) (O.faults out.new) disk disk }
 {
     let Ok(text) = entry_of(alloc, choices, delta) else {
@@ -40,7 +41,8 @@ pub fn print_summary<O: Sink>(
     out: &mut O,
 ) -> Result<(), StepFault>
     requires { AllByRecursion HasSpelling records.now }
-    ensures gives { Prints None (summary_text (choice_of choices.entry) records.now) result (O.given out.old) (O.given out.new) }
+    ensures gives { Prints None (summary_text (choice_of choices.entry) records.now) result (O.given out.old)
+        (O.given out.new) }
     ensures causes { (disk : ℕ) → PrintCauses result (O.faults out.old) (O.faults out.new) disk disk }
 {
     for delta in records {

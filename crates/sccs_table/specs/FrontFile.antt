@@ -1,5 +1,6 @@
 -- What reading the header of an s-file answers.
-use Rattle.std.specs.Prelude.{◌≡◌, ◌≢◌, ℕ, ◌+◌, ◌≤◌, ◌<◌, true, false, List, ◌∷◌, length, drop, Option, None, Some, Result, Ok, Err, OnErr, OnOk}
+use Rattle.std.specs.Prelude.{◌≡◌, ◌≢◌, ℕ, ◌+◌, ◌≤◌, ◌<◌, true, false, List, ◌∷◌, length, drop, Option, None, Some}
+use Rattle.std.specs.Prelude.{Result, Ok, Err, OnErr, OnOk}
 use Rattle.sccs_base.specs.Cut.{HasNoLf, cut}
 use Rattle.sccs_base.specs.Stream.{Rose}
 use Rattle.sccs_disk.specs.Files.{View}
@@ -9,7 +10,8 @@ use Rattle.sccs_grammar.specs.Front.{ParsedFront, front_from, line_after}
 use Rattle.sccs_grammar.specs.File.{answer, opened}
 use Rattle.sccs_grammar.specs.declared.header_parsers.HeaderParser.{HeaderParser}
 use Rattle.sccs_grammar.specs.declared.faults.FileFault.{FileFault}
-use Rattle.sccs_grammar.specs.declared.faults.FileFault.TheVariants.{Missing, TooLong, NotSccs, BadSum, BadFormat, Encoded, Changed, Failed, Memory}
+use Rattle.sccs_grammar.specs.declared.faults.FileFault.TheVariants.{Missing, TooLong, NotSccs, BadSum, BadFormat}
+use Rattle.sccs_grammar.specs.declared.faults.FileFault.TheVariants.{Encoded, Changed, Failed, Memory}
 use Rattle.sccs_table.specs.declared.fronts.Front.{Front}
 use Rattle.sccs_table.specs.ReaderState.{ReaderState, StandsIn, Stays, behind_sum, bytes_in, file_in, left}
 use Rattle.sccs_table.specs.SumOf.{IsPlainSumOf, is_sum_of}
@@ -68,7 +70,9 @@ Opens (Some view) name result = OpensAt (file_in view name) result
 
 -- the first line of a file is a sum line with this number, and a reader stands behind it
 abbrev pub TakesSum : List ℕ → ReaderState → Result ℕ FileFault → Type 0
-TakesSum file new (Ok n) = StandsIn new file × (opened file ≡ Ok (record { sum_of = n; lines = (left new file).lines; bytes = behind_sum file })) × ((cut file).tail ≡ (left new file).tail)
+TakesSum file new (Ok n) = StandsIn new file
+    × (opened file ≡ Ok (record { sum_of = n; lines = (left new file).lines; bytes = behind_sum file }))
+    × ((cut file).tail ≡ (left new file).tail)
 TakesSum file new (Err NotSccs) = opened file ≡ Err NotSccs
 TakesSum file new (Err Failed) = Unit {0}
 TakesSum file new (Err Memory) = Unit {0}
@@ -89,7 +93,8 @@ ReadsLines file old new r n (Err Memory) = Unit {0}
 ReadsLines file old new r n (Err _) = ⊥
 
 -- the same of a told file in which the reader stands
-abbrev pub Reads : Option (List ℕ) → ReaderState → ReaderState → HeaderParser → ℕ → Result (Header × ℕ) FileFault → Type 0
+abbrev pub Reads : Option (List ℕ) → ReaderState → ReaderState → HeaderParser → ℕ → Result (Header × ℕ) FileFault
+    → Type 0
 Reads None old new r n result = Unit {0}
 Reads (Some file) old new r n result = StandsIn old file → ReadsLines file old new r n result
 
@@ -108,13 +113,16 @@ read_as new (Err fault) = Err fault
 -- one line more
 abbrev pub HearsLine : List ℕ → ReaderState → ReaderState → ℕ → HeaderParser → Result HeaderParser FileFault → Type 0
 HearsLine file old new n r (Ok s) =
-    StandsIn new file × ((line : List ℕ) × (left old file ≡ record { lines = line ∷ (left new file).lines; tail = (left new file).tail }) × (line_after n r line ≡ Ok s))
+    StandsIn new file × ((line : List ℕ)
+    × (left old file ≡ record { lines = line ∷ (left new file).lines; tail = (left new file).tail })
+    × (line_after n r line ≡ Ok s))
 HearsLine file old new n r (Err (BadFormat k)) = front_from n r (left old file).lines ≡ Err k
 HearsLine file old new n r (Err Failed) = Unit {0}
 HearsLine file old new n r (Err Memory) = Unit {0}
 HearsLine file old new n r (Err _) = ⊥
 
-abbrev pub AcceptsNext : Option (List ℕ) → ReaderState → ReaderState → ℕ → HeaderParser → Result HeaderParser FileFault → Type 0
+abbrev pub AcceptsNext : Option (List ℕ) → ReaderState → ReaderState → ℕ → HeaderParser → Result HeaderParser FileFault
+    → Type 0
 AcceptsNext None old new n r result = Unit {0}
 AcceptsNext (Some file) old new n r result = StandsIn old file → HearsLine file old new n r result
 
@@ -132,18 +140,21 @@ IsOuter (Err _) = ⊥
 -- whether a stored sum is one of these bytes, whose plain sum is answered
 abbrev pub ChecksSum : ℕ → List ℕ → Result ℕ FileFault → Type 0
 ChecksSum stored bytes (Ok plain) = (is_sum_of stored bytes ≡ true) × IsPlainSumOf plain bytes
-ChecksSum stored bytes (Err (BadSum n plain)) = (is_sum_of stored bytes ≡ false) × (n ≡ stored) × IsPlainSumOf plain bytes
+ChecksSum stored bytes (Err (BadSum n plain)) = (is_sum_of stored bytes ≡ false) × (n ≡ stored)
+    × IsPlainSumOf plain bytes
 ChecksSum stored bytes (Err Failed) = Unit {0}
 ChecksSum stored bytes (Err _) = ⊥
 
 -- A call that reads a disk: it tells what it told, and a failing disk is counted.
-pub record ReadsDisk {D T : Type 0} (told : D → Told) (faults : D → ℕ) (disk disk2 : D) (result : Result T FileFault) : Type 0 where
+pub record ReadsDisk {D T : Type 0} (told : D → Told) (faults : D → ℕ) (disk disk2 : D)
+    (result : Result T FileFault) : Type 0 where
   pub same : told disk2 ≡ told disk
   pub later : faults disk ≤ faults disk2
   pub cause : result ≡ Err Failed → Rose (faults disk) (faults disk2)
 
 -- The same with a reader of lines, which stays in its file and within its limit.
-pub record ReadsOn {D T : Type 0} (told : D → Told) (faults : D → ℕ) (disk disk2 : D) (old new : ReaderState) (result : Result T FileFault) : Type 0 where
+pub record ReadsOn {D T : Type 0} (told : D → Told) (faults : D → ℕ) (disk disk2 : D) (old new : ReaderState)
+    (result : Result T FileFault) : Type 0 where
   pub same : told disk2 ≡ told disk
   pub later : faults disk ≤ faults disk2
   pub cause : result ≡ Err Failed → Rose (faults disk) (faults disk2)
@@ -152,7 +163,8 @@ pub record ReadsOn {D T : Type 0} (told : D → Told) (faults : D → ℕ) (disk
   pub ahead : new.place + length new.held ≤ new.limit
 
 -- The same of calls that fail alone.
-pub record ReadsBytes {D T E : Type 0} (told : D → Told) (faults : D → ℕ) (disk disk2 : D) (old new : ReaderState) (result : Result T E) : Type 0 where
+pub record ReadsBytes {D T E : Type 0} (told : D → Told) (faults : D → ℕ) (disk disk2 : D) (old new : ReaderState)
+    (result : Result T E) : Type 0 where
   pub same : told disk2 ≡ told disk
   pub later : faults disk ≤ faults disk2
   pub cause : OnErr result (Rose (faults disk) (faults disk2))
@@ -161,7 +173,8 @@ pub record ReadsBytes {D T E : Type 0} (told : D → Told) (faults : D → ℕ) 
   pub ahead : new.place + length new.held ≤ new.limit
 
 -- A call that reads on with the next line of that number: it takes one line, which was accepted.
-pub record ReadsLine {D : Type 0} (told : D → Told) (faults : D → ℕ) (disk disk2 : D) (old new : ReaderState) (n : ℕ) (r s : HeaderParser) (result : Result (Unit {0}) FileFault) : Type 0 where
+pub record ReadsLine {D : Type 0} (told : D → Told) (faults : D → ℕ) (disk disk2 : D) (old new : ReaderState) (n : ℕ)
+    (r s : HeaderParser) (result : Result (Unit {0}) FileFault) : Type 0 where
   pub frame : ReadsOn told faults disk disk2 old new result
   pub first : IsFirst result
   pub stays : Stays (bytes_in (seen (told disk)) old.name) old new

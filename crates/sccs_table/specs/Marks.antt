@@ -1,5 +1,6 @@
 -- Where LF and SOH stand in a piece, 64 bytes at a time.
-use Rattle.std.specs.Prelude.{◌≡◌, ◌≢◌, ℕ, ◌*◌, ◌<◌, ◌≤◌, ◌==◌, Bool, not, Option, None, Some, List, length, map, take, drop, get_or, if◌then◌else◌}
+use Rattle.std.specs.Prelude.{◌≡◌, ◌≢◌, ℕ, ◌*◌, ◌<◌, ◌≤◌, ◌==◌, Bool, not, Option, None, Some, List, length, map, take}
+use Rattle.std.specs.Prelude.{drop, get_or, if◌then◌else◌}
 use Rattle.std.specs.Int.{bit_at}
 use Rattle.std.specs.Simd.Lanes.{mask_l}
 use Rattle.sccs_base.specs.Cut.{HasNoLf}
@@ -37,7 +38,8 @@ pub record Describes (ends before : List ℕ) (piece : List ℕ) (blocks : ℕ) 
 abbrev pub HasNoMarked : List ℕ → ℕ → Type 0
 HasNoMarked piece blocks = (n : ℕ) → n < blocks → bits_of 1 (byte_block n piece) ≡ 0
 
--- nothing is known of the LFs of a piece; or how many there are, and a place behind which none stands; or each one's place
+-- nothing is known of the LFs of a piece; or how many there are, and a place behind which none stands; or each one's
+-- place
 abbrev pub KnowsLfs : Known → PieceMarks → List ℕ → Type 0
 KnowsLfs Nothing marks piece = Unit {0}
 KnowsLfs Number marks piece = (marks.count ≡ lf_count piece) × HasNoLf (drop marks.last piece)
@@ -62,4 +64,5 @@ IsNextSoh piece from to (Some at) = (from ≤ at) × (at < to) × HasNoSoh piece
 -- the first marked block behind one
 abbrev pub IsNextBlock : ℕ → ℕ → Option ℕ → Type 0
 IsNextBlock marked n None = (m : ℕ) → n < m → m < 64 → bit_at marked m ≡ 0
-IsNextBlock marked n (Some next) = (n < next) × (next < 64) × ((m : ℕ) → n < m → m < next → bit_at marked m ≡ 0) × (bit_at marked next ≡ 1)
+IsNextBlock marked n (Some next) = (n < next) × (next < 64) × ((m : ℕ) → n < m → m < next → bit_at marked m ≡ 0)
+    × (bit_at marked next ≡ 1)

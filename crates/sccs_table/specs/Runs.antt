@@ -1,5 +1,6 @@
 -- Whole text lines at the front of bytes.
-use Rattle.std.specs.Prelude.{◌≡◌, ◌≢◌, ◌⊎◌, ℕ, suc, ◌-◌, ◌<◌, ◌==◌, true, List, [], ◌++◌, get_or, sum_by, if◌then◌else◌}
+use Rattle.std.specs.Prelude.{◌≡◌, ◌≢◌, ◌⊎◌, ℕ, suc, ◌-◌, ◌<◌, ◌==◌, true, List, [], ◌++◌, get_or, sum_by}
+use Rattle.std.specs.Prelude.{if◌then◌else◌}
 use Rattle.sccs_base.specs.Cut.{HasNoLf, cut}
 use Rattle.sccs_sid.specs.SidLists.{begins}
 use Rattle.sccs_history.specs.History.{AreBare}
@@ -28,4 +29,5 @@ HasNoRun bytes = (begins 1 bytes ≡ true) ⊎ HasNoLf bytes
 -- a reader passed over a run: what was left of the file is its lines, and what is left now
 abbrev pub PassesRun : List ℕ → List ℕ → ReaderState → ReaderState → Type 0
 PassesRun run file old new =
-    StandsIn old file → StandsIn new file × (left old file ≡ record { lines = (cut run).lines ++ (left new file).lines; tail = (left new file).tail })
+    StandsIn old file → StandsIn new file
+    × (left old file ≡ record { lines = (cut run).lines ++ (left new file).lines; tail = (left new file).tail })

@@ -4,7 +4,8 @@ ghost use Rattle.sccs_disk.specs.Told.{seen};
 ghost use Rattle.sccs_grammar.specs.File.{checked_front, front_of, stored};
 ghost use Rattle.sccs_history.specs.History.{IsHeader, IsSpelled, KeepsRules, is_encoded, is_one};
 ghost use Rattle.sccs_grammar.specs.Front.{header_of, is_whole, line_after, start};
-ghost use Rattle.sccs_table.specs.FrontFile.{AnswersFront, AnswersLine, ChecksSum, IsFirst, IsPlaced, Opens, Reads, ReadsDisk, ReadsLine, ReadsOn, SumLine, read_as};
+ghost use Rattle.sccs_table.specs.FrontFile.{AnswersFront, AnswersLine, ChecksSum, IsFirst, IsPlaced, Opens, Reads};
+ghost use Rattle.sccs_table.specs.FrontFile.{ReadsDisk, ReadsLine, ReadsOn, SumLine, read_as};
 ghost use Rattle.sccs_table.specs.ReaderState.{StandsIn, Stays, behind_sum, bytes_in, file_in};
 
 use crate::line_readers::LineReader;
@@ -223,7 +224,8 @@ pub fn check_sum<D: Disk>(
     requires { 8 ≤ reader.old.limit }
     ensures frame { ReadsDisk D.told D.faults disk.old disk.new result }
     ensures first { IsFirst result }
-    ensures told { (file : List ℕ) → bytes_in (seen (D.told disk.old)) reader.old.name ≡ Some file → 8 ≤ length file → StandsIn reader.old file
+    ensures told { (file : List ℕ) → bytes_in (seen (D.told disk.old)) reader.old.name ≡ Some file → 8 ≤ length file
+        → StandsIn reader.old file
         → ChecksSum stored (behind_sum file) result }
 {
     let end = reader.limit();

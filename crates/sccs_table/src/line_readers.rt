@@ -1,4 +1,5 @@
-ghost use Rattle.std.specs.Prelude.{◌≡◌, ℕ, List, ◌++◌, ◌<◌, ◌≤◌, ◌+◌, ◌-◌, [], ◌∷◌, true, false, Option, None, Some, length, max, min, replicate, take, drop, IfOk, IfSome, OnOk, OnErr, IsErr};
+ghost use Rattle.std.specs.Prelude.{◌≡◌, ℕ, List, ◌++◌, ◌<◌, ◌≤◌, ◌+◌, ◌-◌, [], ◌∷◌, true, false, Option, None, Some};
+ghost use Rattle.std.specs.Prelude.{length, max, min, replicate, take, drop, IfOk, IfSome, OnOk, OnErr, IsErr};
 ghost use Rattle.sccs_base.specs.Cut.{HasNoLf};
 ghost use Rattle.sccs_disk.specs.Told.{seen};
 ghost use Rattle.sccs_sid.specs.SidLists.{begins};
@@ -80,7 +81,8 @@ fn read_piece<D: Disk>(
     ensures told { IfOk result (λ count. IfSome (bytes_in (seen (D.told disk.old)) name.now)
         (λ file. take count piece.new ≡ take room (drop from file))) }
     ensures rest { IfOk result (λ count. drop count piece.new ≡ replicate (length piece.old - count) 0) }
-    ensures missing { IfOk result (λ count. IfSome (seen (D.told disk.old)) (λ view. view name.now ≡ None → count ≡ 0)) }
+    ensures missing { IfOk result (λ count. IfSome (seen (D.told disk.old)) (λ view. view name.now ≡ None
+        → count ≡ 0)) }
 {
     let count = disk.read_at(name, from, &mut piece[..room])?;
     let count = count.unwrap_or(0);
@@ -206,7 +208,8 @@ fn read_behind<D: Disk>(
     ensures bound { IfOk result (λ count. count ≤ room) }
     ensures len { length piece.new ≡ length piece.old }
     ensures front { take front piece.new ≡ take front piece.old }
-    ensures rest { IfOk result (λ count. drop count (drop front piece.new) ≡ replicate (length piece.old - front - count) 0) }
+    ensures rest { IfOk result (λ count. drop count (drop front piece.new) ≡ replicate
+        (length piece.old - front - count) 0) }
     ensures told { IfOk result (λ count. IfSome (bytes_in (seen (D.told disk.old)) name.now)
         (λ file. take count (drop front piece.new) ≡ take room (drop from file))) }
 {
@@ -311,7 +314,8 @@ impl LineReader {
         ensures none { IfOk result (λ more. more ≡ false → self.new.held ≡ []) }
         ensures failed { OnErr result (self.new.held ≡ []) }
         ensures told { IfOk result (λ more. IfSome (bytes_in (seen (D.told disk.old)) self.old.name)
-            (λ file. StandsIn self.old file → StandsIn self.new file × (more ≡ false → min to (length file) ≤ self.new.place))) }
+            (λ file. StandsIn self.old file → StandsIn self.new file
+            × (more ≡ false → min to (length file) ≤ self.new.place))) }
     {
         self.start = 0;
         self.end = 0;
@@ -368,7 +372,8 @@ impl LineReader {
         ensures held { self.new.held ≡ [] }
         ensures onward { self.old.place + length self.old.held ≤ self.new.place }
         ensures bound { self.new.place ≤ max to (self.old.place + length self.old.held) }
-        ensures told { OnOk result ((file : List ℕ) → bytes_in (seen (D.told disk.old)) self.old.name ≡ Some file → StandsIn self.old file → min to (length file) ≤ self.new.place) }
+        ensures told { OnOk result ((file : List ℕ) → bytes_in (seen (D.told disk.old)) self.old.name ≡ Some file
+            → StandsIn self.old file → min to (length file) ≤ self.new.place) }
     {
         let _ = &self.limit;
         'pieces: loop {
@@ -417,10 +422,12 @@ impl LineReader {
         ensures frame { ReadsOn D.told D.faults disk.old disk.new self.old self.new result }
         ensures outer { IsOuter result }
         ensures stays { Stays (bytes_in (seen (D.told disk.old)) self.old.name) self.old self.new }
-        ensures told { IfOk result (λ ended. TakesLine (bytes_in (seen (D.told disk.old)) self.old.name) self.old self.new line.new.items ended) }
+        ensures told { IfOk result (λ ended. TakesLine (bytes_in (seen (D.told disk.old)) self.old.name) self.old
+            self.new line.new.items ended) }
         ensures line { OnOk result (HasNoLf line.new.items) }
         ensures onward { self.old.place ≤ self.new.place }
-        ensures moved { IfOk result (λ ended. ended ≡ true → self.new.place ≡ self.old.place + length line.new.items + 1) }
+        ensures moved { IfOk result (λ ended. ended ≡ true → self.new.place ≡ self.old.place + length line.new.items
+            + 1) }
     {
         let _ = &self.limit;
         'pieces: loop {

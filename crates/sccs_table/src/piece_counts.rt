@@ -1,5 +1,6 @@
 //! What is found of a piece in which no SOH stands: its sum and how many LFs it has, 64 bytes at a time.
-ghost use Rattle.std.specs.Prelude.{◌≡◌, ◌<◌, ◌≤◌, ◌+◌, ◌*◌, ◌%◌, ℕ, List, true, false, sum, length, take, drop, get_or, IfSome};
+ghost use Rattle.std.specs.Prelude.{◌≡◌, ◌<◌, ◌≤◌, ◌+◌, ◌*◌, ◌%◌, ℕ, List, true, false, sum, length, take, drop};
+ghost use Rattle.std.specs.Prelude.{get_or, IfSome};
 ghost use Rattle.std.specs.Simd.Lanes.{Each1, sum_l};
 ghost use Rattle.sccs_table.specs.Runs.{lf_count};
 ghost use Rattle.sccs_table.specs.BlockCounts.{CountedTo};

@@ -1,9 +1,11 @@
 //! Where LF and SOH stand in a piece.
-ghost use Rattle.std.specs.Prelude.{◌≡◌, ◌≢◌, false, true, ℕ, List, ◌%◌, sum, ◌+◌, ◌*◌, ◌<◌, ◌≤◌, length, replicate, take, drop, get_or, if◌then◌else◌, ◌==◌};
+ghost use Rattle.std.specs.Prelude.{◌≡◌, ◌≢◌, false, true, ℕ, List, ◌%◌, sum, ◌+◌, ◌*◌, ◌<◌, ◌≤◌, length, replicate};
+ghost use Rattle.std.specs.Prelude.{take, drop, get_or, if◌then◌else◌, ◌==◌};
 ghost use Rattle.std.specs.Int.{bit_at};
 ghost use Rattle.sccs_base.specs.Cut.{HasNoLf};
 ghost use Rattle.sccs_table.specs.Runs.{lf_count};
-ghost use Rattle.sccs_table.specs.Marks.{AreMarked, AreSohs, Describes, HasNoSoh, IsNextBlock, IsNextSoh, MarksOf, bit, bits_of, byte_block};
+ghost use Rattle.sccs_table.specs.Marks.{AreMarked, AreSohs, Describes, HasNoSoh, IsNextBlock, IsNextSoh, MarksOf, bit};
+ghost use Rattle.sccs_table.specs.Marks.{bits_of, byte_block};
 
 use crate::counts::lines_in;
 use crate::piece_counts::{lanes_of, plain_count, plain_sum, sum_with};

@@ -113,7 +113,8 @@ impl PlainSum {
 
     /// Adds the bytes that stand behind others, from the plain sum of both.
     pub fn add_behind(&mut self, total: u16, front: &[u8])
-        ensures { (before bytes : List ℕ) → total ≡ (sum front.now + sum bytes) % 65536 → IsPlainSumOf self.old before → IsPlainSumOf self.new (before ++ bytes) }
+        ensures { (before bytes : List ℕ) → total ≡ (sum front.now + sum bytes) % 65536 → IsPlainSumOf self.old before
+            → IsPlainSumOf self.new (before ++ bytes) }
     {
         let behind = total.wrapping_sub(plain_of(front));
         self.value = self.value.wrapping_add(behind);

@@ -85,7 +85,8 @@ fn err_of(alloc: Global, cases: &[Case]) -> Result<Vec<u8>, Fail> {
     Ok(err)
 }
 
-/// Whether cases with words end as the entries of one batch as they do one by one, over a disk as it stands before them.
+/// Whether cases with words end as the entries of one batch as they do one by one, over a disk as it stands before
+/// them.
 pub fn ends_as_batch<D: Disk>(alloc: Global, disk: &mut D, cases: &[Case]) -> Result<bool, Fail> {
     let batch = batch_of(alloc, cases)?;
     let given = Given {

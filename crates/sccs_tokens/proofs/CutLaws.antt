@@ -11,16 +11,19 @@ cut_by : (line rest : List ℕ) → AllByRecursion (λ b. b ≢ 10) line → cut
 cut_by [] rest none = cut-cons 10 rest
 cut_by (b ∷ line) rest none =
     cut-cons b (line ++ 10 ∷ rest)
-    ∙ (ap (λ test. before test b (cut (line ++ 10 ∷ rest))) (ne_eqb b 10 none.0) ∙ ap (λ (c : Cut). longer b c.lines c.tail) (cut_by line rest none.1))
+    ∙ (ap (λ test. before test b (cut (line ++ 10 ∷ rest))) (ne_eqb b 10 none.0)
+    ∙ ap (λ (c : Cut). longer b c.lines c.tail) (cut_by line rest none.1))
 
-pub cut_line : (line rest : List ℕ) → HasNoLf line → cut (line ++ 10 ∷ rest) ≡ record { lines = line ∷ (cut rest).lines; tail = (cut rest).tail }
+pub cut_line : (line rest : List ℕ) → HasNoLf line → cut (line ++ 10 ∷ rest)
+    ≡ record { lines = line ∷ (cut rest).lines; tail = (cut rest).tail }
 cut_line line rest none = cut_by line rest (recursion_from_All (λ b. b ≢ 10) line none)
 
 cut_end : (line : List ℕ) → AllByRecursion (λ b. b ≢ 10) line → cut line ≡ record { lines = []; tail = line }
 unfolding cut
 cut_end [] none = refl
 cut_end (b ∷ line) none =
-    cut-cons b line ∙ (ap (λ test. before test b (cut line)) (ne_eqb b 10 none.0) ∙ ap (λ (c : Cut). longer b c.lines c.tail) (cut_end line none.1))
+    cut-cons b line ∙ (ap (λ test. before test b (cut line)) (ne_eqb b 10 none.0)
+    ∙ ap (λ (c : Cut). longer b c.lines c.tail) (cut_end line none.1))
 
 -- bytes without LF are behind the last one
 pub cut_tail : (line : List ℕ) → HasNoLf line → cut line ≡ record { lines = []; tail = line }
@@ -31,7 +34,9 @@ unfolding cut
 cut_nothing = refl
 
 -- the bytes of lines are those lines
-pub cut-bytes_of : (lines : List (List ℕ)) → AllByRecursion HasNoLf lines → cut (bytes_of lines) ≡ record { lines = lines; tail = [] }
+pub cut-bytes_of : (lines : List (List ℕ)) → AllByRecursion HasNoLf lines
+    → cut (bytes_of lines) ≡ record { lines = lines; tail = [] }
 cut-bytes_of [] none = cut_nothing
 cut-bytes_of (line ∷ lines) none =
-    ap cut (append_assoc line (10 ∷ []) (bytes_of lines)) ∙ (cut_line line (bytes_of lines) none.0 ∙ ap (with_line line) (cut-bytes_of lines none.1))
+    ap cut (append_assoc line (10 ∷ []) (bytes_of lines)) ∙ (cut_line line (bytes_of lines) none.0
+    ∙ ap (with_line line) (cut-bytes_of lines none.1))

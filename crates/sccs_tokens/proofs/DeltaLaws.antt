@@ -37,30 +37,50 @@ two_blanks n more none = ((λ e. absurd (omega arith)), ((λ e. absurd (omega ar
 
 pub date_word : (c : Civil) → IsWord (civil_date c)
 date_word c =
-    two_blanks _ (47 ∷ two c.month ++ (47 ∷ two c.day)) ((λ e. absurd (omega arith)), two_blanks c.month (47 ∷ two c.day) ((λ e. absurd (omega arith)), two_blanks c.day [] tt))
+    two_blanks _ (47 ∷ two c.month ++ (47 ∷ two c.day)) (
+      (λ e. absurd (omega arith)),
+      two_blanks c.month
+          (47 ∷ two c.day) ((λ e. absurd (omega arith)), two_blanks c.day [] tt),
+    )
 
 pub time_word : (c : Civil) → IsWord (civil_time c)
 time_word c =
-    two_blanks c.hour (58 ∷ two c.minute ++ (58 ∷ two c.second)) ((λ e. absurd (omega arith)), two_blanks c.minute (58 ∷ two c.second) ((λ e. absurd (omega arith)), two_blanks c.second [] tt))
+    two_blanks c.hour (58 ∷ two c.minute ++ (58 ∷ two c.second)) (
+      (λ e. absurd (omega arith)),
+      two_blanks c.minute
+          (58 ∷ two c.second) ((λ e. absurd (omega arith)), two_blanks c.second [] tt),
+    )
 
 component_word : (n : ℕ) → n < 10000 → IsWord (decimal n)
 component_word n small = decimal_word n (omega (arith, small))
 
 branch_blanks : (branch sequence : ℕ) → IsBranch branch sequence → HasNoBlank (branch_text branch sequence)
 branch_blanks zero sequence is = tt
-branch_blanks (suc b) sequence is =
-    ((λ e. absurd (omega arith)), both (decimal (suc b)) (46 ∷ decimal sequence) (blanks_of _ (component_word (suc b) is.0)) ((λ e. absurd (omega arith)), blanks_of _ (component_word sequence is.1.1)))
+branch_blanks (suc b) sequence is = (
+  (λ e. absurd (omega arith)),
+  both (decimal (suc b)) (46 ∷ decimal sequence)
+      (blanks_of _ (component_word (suc b) is.0)) (
+        (λ e. absurd (omega arith)),
+        blanks_of _
+            (component_word sequence is.1.1),
+      ),
+)
 
 pub sid_word : (sid : Sid) → IsSid sid → IsWord (sid_text sid)
 unfolding sid_text
 sid_word sid is =
-    word_more (decimal sid.release) (46 ∷ decimal sid.level ++ branch_text sid.branch sid.sequence) (component_word sid.release is.release.1)
-    ((λ e. absurd (omega arith)), both (decimal sid.level) (branch_text sid.branch sid.sequence) (blanks_of _ (component_word sid.level is.level.1)) (branch_blanks sid.branch sid.sequence is.branch))
+    word_more (decimal sid.release) (46 ∷ decimal sid.level ++ branch_text sid.branch sid.sequence)
+    (component_word sid.release is.release.1) (
+      (λ e. absurd (omega arith)),
+      both (decimal sid.level) (branch_text sid.branch sid.sequence)
+          (blanks_of _ (component_word sid.level is.level.1)) (branch_blanks sid.branch sid.sequence is.branch),
+    )
 
 visible_blanks : (bytes : List ℕ) → All (λ b. 32 < b) bytes → HasNoBlank bytes
 visible_blanks [] are = tt
 visible_blanks (b ∷ bytes) are =
-    let low : 32 < b = are 0 0 (omega arith) in ((λ e. absurd (omega arith)), visible_blanks bytes (λ k d short. are (suc k) d (omega (arith, short))))
+    let low : 32 < b = are 0 0 (omega arith) in
+    ((λ e. absurd (omega arith)), visible_blanks bytes (λ k d short. are (suc k) d (omega (arith, short))))
 
 some_word : (bytes : List ℕ) → 0 < length bytes → HasNoBlank bytes → IsWord bytes
 some_word [] some none = absurd (omega (arith, some))
@@ -73,9 +93,27 @@ kind_word : (removed : Bool) → IsWord (kind_of removed)
 kind_word true = ((λ e. absurd (omega arith)), tt)
 kind_word false = ((λ e. absurd (omega arith)), tt)
 
-words_are : (r : Record) → HasSpelling r → IsSerial r.serial → r.predecessor < 65536 → AllByRecursion IsWord (delta_words r)
-words_are r spells is before =
-    (kind_word r.removed, (sid_word r.sid spells.sid, (date_word (civil_of r.moment), (time_word (civil_of r.moment), (login_word r.login spells.login, (decimal_word r.serial (omega (arith, is.1)), (decimal_word r.predecessor (omega (arith, before)), tt)))))))
+words_are : (r : Record) → HasSpelling r → IsSerial r.serial → r.predecessor < 65536
+    → AllByRecursion IsWord (delta_words r)
+words_are r spells is before = (
+  kind_word r.removed,
+  (
+    sid_word r.sid spells.sid,
+    (
+      date_word (civil_of r.moment),
+      (
+        time_word (civil_of r.moment),
+        (
+          login_word r.login spells.login,
+          (
+            decimal_word r.serial (omega (arith, is.1)),
+            (decimal_word r.predecessor (omega (arith, before)), tt),
+          ),
+        ),
+      ),
+    ),
+  ),
+)
 
 -- ---- each is read again
 
@@ -89,11 +127,21 @@ predecessor_again n small =
     rw (whole_number 5 n (omega arith) (omega (arith, small)) (omega (arith, small)), lt-ltb n 65536 small) refl
 
 delta_again : (r : Record) → HasSpelling r → IsSerial r.serial → r.predecessor < 65536
-    → delta_of (kind_of r.removed) (sid_text r.sid) (date_text r.moment) (time_text r.moment) r.login (decimal r.serial) (decimal r.predecessor) ≡ Some (Delta (delta_part r))
+    → delta_of (kind_of r.removed) (sid_text r.sid) (date_text r.moment) (time_text r.moment) r.login (decimal r.serial)
+    (decimal r.predecessor) ≡ Some (Delta (delta_part r))
 unfolding delta_of
 delta_again r spells is before =
-    rw (kind_again r.removed, sid_text_again r.sid spells.sid, moment_text_again r.moment spells.moment, (login_decides r.login).1 spells.login, serial_again r.serial is, predecessor_again r.predecessor before) refl
+    rw (
+      kind_again r.removed,
+      sid_text_again r.sid spells.sid,
+      moment_text_again r.moment spells.moment,
+      (login_decides r.login).1 spells.login,
+      serial_again r.serial is,
+      predecessor_again r.predecessor before,
+    ) refl
 
-pub token_delta : (r : Record) → HasSpelling r → IsSerial r.serial → r.predecessor < 65536 → token (delta_line r) ≡ Some (Delta (delta_part r))
+pub token_delta : (r : Record) → HasSpelling r → IsSerial r.serial → r.predecessor < 65536 → token (delta_line r) ≡ Some
+    (Delta (delta_part r))
 unfolding token control
-token_delta r spells is before = rw (words_again (delta_words r) (words_are r spells is before)) (delta_again r spells is before)
+token_delta r spells is before = rw (words_again (delta_words r) (words_are r spells is before))
+    (delta_again r spells is before)

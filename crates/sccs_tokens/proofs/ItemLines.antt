@@ -14,7 +14,8 @@ not_so : {P : Type 0} (b : Bool) → b ≡ false → b ≡ true → P
 not_so true is other = cc
 not_so false is other = cc
 
-each_none : (letter : ℕ) (bytes : List ℕ) → letter == 73 ≡ false → letter == 68 ≡ false → letter == 69 ≡ false → EachKeeps IsNoItem letter bytes
+each_none : (letter : ℕ) (bytes : List ℕ) → letter == 73 ≡ false → letter == 68 ≡ false → letter == 69 ≡ false
+    → EachKeeps IsNoItem letter bytes
 each_none letter bytes insert delete end = each_of_kinds IsNoItem letter bytes (record {
   counts = λ i d u. refl;
   delta = λ r is. refl;
@@ -34,5 +35,7 @@ no_item_token None none = refl
 no_item_token (Some s) none = none
 
 -- a letter that begins no control line of a body begins no item
-pub no_item : (letter : ℕ) (bytes : List ℕ) → letter == 73 ≡ false → letter == 68 ≡ false → letter == 69 ≡ false → item_behind letter bytes ≡ None
-no_item letter bytes insert delete end = no_item_token (control letter bytes) (control_keeps IsNoItem letter bytes (each_none letter bytes insert delete end))
+pub no_item : (letter : ℕ) (bytes : List ℕ) → letter == 73 ≡ false → letter == 68 ≡ false → letter == 69 ≡ false
+    → item_behind letter bytes ≡ None
+no_item letter bytes insert delete end = no_item_token (control letter bytes) (control_keeps IsNoItem letter bytes
+    (each_none letter bytes insert delete end))

@@ -10,7 +10,8 @@ use Rattle.sccs_sid.specs.Words.{skip_blanks, kept, drop_blanks}
 abbrev pub NoLf : List ℕ → Type 0
 NoLf bytes = AllByRecursion (λ b. b ≢ 10) bytes
 
-skip_one : (b : ℕ) (bytes : List ℕ) → (b == 32 ≡ true) ⊎ (b == 32 ≡ false) → NoLf (b ∷ bytes) → NoLf (skip_blanks bytes) → NoLf (skip_blanks (b ∷ bytes))
+skip_one : (b : ℕ) (bytes : List ℕ) → (b == 32 ≡ true) ⊎ (b == 32 ≡ false) → NoLf (b ∷ bytes) → NoLf (skip_blanks bytes)
+    → NoLf (skip_blanks (b ∷ bytes))
 unfolding skip_blanks
 skip_one b bytes (inl is) none rest = rw is rest
 skip_one b bytes (inr other) none rest = rw other none
@@ -35,8 +36,10 @@ no_lf_drop (b ∷ bytes) none = kept_one b (drop_blanks bytes) none.0 (no_lf_dro
 
 pub no_lf_trimmed : (bytes : List ℕ) → HasNoLf bytes → HasNoLf (drop_blanks (skip_blanks bytes))
 no_lf_trimmed bytes none =
-    All-from_recursion (λ b. b ≢ 10) (drop_blanks (skip_blanks bytes)) (no_lf_drop (skip_blanks bytes) (no_lf_skip bytes (recursion_from_All (λ b. b ≢ 10) bytes none)))
+    All-from_recursion (λ b. b ≢ 10) (drop_blanks (skip_blanks bytes)) (no_lf_drop (skip_blanks bytes)
+    (no_lf_skip bytes (recursion_from_All (λ b. b ≢ 10) bytes none)))
 
 pub no_lf_skipped : (bytes : List ℕ) → HasNoLf bytes → HasNoLf (skip_blanks bytes)
 no_lf_skipped bytes none =
-    All-from_recursion (λ b. b ≢ 10) (skip_blanks bytes) (no_lf_skip bytes (recursion_from_All (λ b. b ≢ 10) bytes none))
+    All-from_recursion (λ b. b ≢ 10) (skip_blanks bytes)
+    (no_lf_skip bytes (recursion_from_All (λ b. b ≢ 10) bytes none))

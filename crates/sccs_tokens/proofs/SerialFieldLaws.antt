@@ -1,5 +1,6 @@
 -- A serial behind one blank, without zeros in front, is a serial field.
-use Rattle.std.proofs.Common.{◌≡◌, ◌≢◌, ◌⊎◌, inl, inr, ℕ, zero, suc, ◌+◌, ◌*◌, ◌-◌, ◌<◌, ◌≤◌, ◌==◌, nat_lt, true, false, List, [], ◌∷◌, Option, Some, None, refl, sym, ap, ◌∙◌, arith, append-nil}
+use Rattle.std.proofs.Common.{◌≡◌, ◌≢◌, ◌⊎◌, inl, inr, ℕ, zero, suc, ◌+◌, ◌*◌, ◌-◌, ◌<◌, ◌≤◌, ◌==◌, nat_lt, true, false}
+use Rattle.std.proofs.Common.{List, [], ◌∷◌, Option, Some, None, refl, sym, ap, ◌∙◌, arith, append-nil}
 use Rattle.std.specs.List.{AllByRecursion}
 use Rattle.std.specs.Option.{IfSome}
 use Rattle.std.proofs.lemmas.Bool.{cases_Bool, ltb-false}
@@ -28,8 +29,10 @@ pub none_below : (k : ℕ) (bytes : List ℕ) → k < 48 → AreHigh bytes → A
 none_below k [] low are = tt
 none_below k (b ∷ bytes) low are = (λ is. absurd (omega (arith, are.0, is)), none_below k bytes low are.1)
 
-after_digit : (most high b : ℕ) (bytes : List ℕ) (n : ℕ) → (nat_lt b 48 ≡ true) ⊎ (nat_lt b 48 ≡ false) → (nat_lt 57 b ≡ true) ⊎ (nat_lt 57 b ≡ false)
-    → digits_after (suc most) high (b ∷ bytes) ≡ (n, []) → ((h : ℕ) → digits_after most h bytes ≡ (n, []) → AreHigh bytes) → AreHigh (b ∷ bytes)
+after_digit : (most high b : ℕ) (bytes : List ℕ) (n : ℕ) → (nat_lt b 48 ≡ true) ⊎ (nat_lt b 48 ≡ false)
+    → (nat_lt 57 b ≡ true) ⊎ (nat_lt 57 b ≡ false)
+    → digits_after (suc most) high (b ∷ bytes) ≡ (n, []) → ((h : ℕ) → digits_after most h bytes ≡ (n, [])
+    → AreHigh bytes) → AreHigh (b ∷ bytes)
 unfolding digits_after
 after_digit most high b bytes n (inl low) past is more = left_over high n b bytes (rw low at is)
 after_digit most high b bytes n (inr digit) (inl past) is more = left_over high n b bytes (rw (digit, past) at is)
@@ -41,18 +44,23 @@ unfolding digits_after
 digits_high most high [] n is = tt
 digits_high zero high (b ∷ bytes) n is = left_over high n b bytes is
 digits_high (suc most) high (b ∷ bytes) n is =
-    after_digit most high b bytes n (cases_Bool (nat_lt b 48)) (cases_Bool (nat_lt 57 b)) is (λ h. digits_high most h bytes n)
+    after_digit most high b bytes n (cases_Bool (nat_lt b 48)) (cases_Bool (nat_lt 57 b)) is
+    (λ h. digits_high most h bytes n)
 
 whole_is : (x : ℕ × List ℕ) (n : ℕ) → only (is_empty x.1) x.0 ≡ Some n → x ≡ (n, [])
 whole_is (m, []) n is = cc
 whole_is (m, b ∷ bytes) n is = absurd cc
 
-first_digit : (most b : ℕ) (bytes : List ℕ) (n : ℕ) → (nat_lt b 48 ≡ true) ⊎ (nat_lt b 48 ≡ false) → (nat_lt 57 b ≡ true) ⊎ (nat_lt 57 b ≡ false) → whole (number_at most (b ∷ bytes)) ≡ Some n → AreHigh (b ∷ bytes)
+first_digit : (most b : ℕ) (bytes : List ℕ) (n : ℕ) → (nat_lt b 48 ≡ true) ⊎ (nat_lt b 48 ≡ false)
+    → (nat_lt 57 b ≡ true) ⊎ (nat_lt 57 b ≡ false) → whole (number_at most (b ∷ bytes)) ≡ Some n → AreHigh (b ∷ bytes)
 unfolding number_at
 first_digit most b bytes n (inl low) past is = none_is n (rw low at is)
 first_digit most b bytes n (inr digit) (inl past) is = none_is n (rw (digit, past) at is)
-first_digit most b bytes n (inr digit) (inr last) is =
-    (ltb-false b 48 digit, digits_high (most - 1) (b - 48) bytes n (whole_is (digits_after (most - 1) (b - 48) bytes) n (rw (digit, last) at is)))
+first_digit most b bytes n (inr digit) (inr last) is = (
+  ltb-false b 48 digit,
+  digits_high (most - 1) (b - 48) bytes n (whole_is (digits_after (most - 1) (b - 48) bytes) n
+      (rw (digit, last) at is)),
+)
 
 pub number_high : (most b : ℕ) (bytes : List ℕ) (n : ℕ) → number most (b ∷ bytes) ≡ Some n → AreHigh (b ∷ bytes)
 unfolding number
@@ -63,16 +71,23 @@ number_high most b bytes n is = first_digit most b bytes n (cases_Bool (nat_lt b
 lone_word : (word : List ℕ) → IsWord word → words word ≡ word ∷ []
 lone_word word is = ap words (sym (append-nil word)) ∙ (word_first word [] is tt ∙ ap (λ ws. word ∷ ws) words-nil)
 
-bare_serial_field : (b : ℕ) (word : List ℕ) → b == 48 ≡ false → HasNoBlank (b ∷ word) → serial_field (32 ∷ b ∷ word) ≡ serial (b ∷ word)
+bare_serial_field : (b : ℕ) (word : List ℕ) → b == 48 ≡ false → HasNoBlank (b ∷ word) → serial_field (32 ∷ b ∷ word)
+    ≡ serial (b ∷ word)
 unfolding serial_field ends_blank skip
-bare_serial_field b word other bare = rw (ends-word (b ∷ word) bare, words-blank (b ∷ word) ∙ lone_word (b ∷ word) bare, other) refl
+bare_serial_field b word other bare = rw (
+  ends-word (b ∷ word) bare,
+  words-blank (b ∷ word) ∙ lone_word (b ∷ word) bare,
+  other,
+) refl
 
-serial_some : (b n : ℕ) (word : List ℕ) (read : Option ℕ) → number 5 (b ∷ word) ≡ read → serial (b ∷ word) ≡ Some n → HasNoBlank (b ∷ word)
+serial_some : (b n : ℕ) (word : List ℕ) (read : Option ℕ) → number 5 (b ∷ word) ≡ read → serial (b ∷ word) ≡ Some n
+    → HasNoBlank (b ∷ word)
 unfolding serial
 serial_some b n word None none is = none_is n (rw none at is)
 serial_some b n word (Some m) some is = none_below 32 (b ∷ word) (omega arith) (number_high 5 b word m some)
 
-plain_serial_field : (b n : ℕ) (word : List ℕ) → (b == 48 ≡ true) ⊎ (b == 48 ≡ false) → plain_serial (b ∷ word) ≡ Some n → serial_field (32 ∷ b ∷ word) ≡ Some n
+plain_serial_field : (b n : ℕ) (word : List ℕ) → (b == 48 ≡ true) ⊎ (b == 48 ≡ false) → plain_serial (b ∷ word) ≡ Some n
+    → serial_field (32 ∷ b ∷ word) ≡ Some n
 plain_serial_field b n word (inl zeros) is = none_is n (rw zeros at is)
 plain_serial_field b n word (inr other) is =
     let plain : serial (b ∷ word) ≡ Some n = rw other at is in

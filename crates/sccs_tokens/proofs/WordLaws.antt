@@ -33,12 +33,14 @@ words-blank bytes = words-cons 32 bytes
 pub words-other : (b : ℕ) (bytes : List ℕ) → b ≢ 32 → words (b ∷ bytes) ≡ joined b bytes (words bytes)
 words-other b bytes other = words-cons b bytes ∙ ap (λ test. with_byte test b bytes (words bytes)) (ne_eqb b 32 other)
 
-pub joined_last : (b : ℕ) (rest : List ℕ) (others : List (List ℕ)) → EndsWord rest → words rest ≡ others → joined b rest others ≡ (b ∷ []) ∷ others
+pub joined_last : (b : ℕ) (rest : List ℕ) (others : List (List ℕ)) → EndsWord rest → words rest ≡ others
+    → joined b rest others ≡ (b ∷ []) ∷ others
 joined_last b [] others ends is = refl
 joined_last b (next ∷ rest) [] ends is = refl
 joined_last b (next ∷ rest) (word ∷ others) ends is = ap (λ n. joined b (n ∷ rest) (word ∷ others)) ends
 
-pub joined_more : (b c : ℕ) (bytes word : List ℕ) (others : List (List ℕ)) → c ≢ 32 → joined b (c ∷ bytes) (word ∷ others) ≡ (b ∷ word) ∷ others
+pub joined_more : (b c : ℕ) (bytes word : List ℕ) (others : List (List ℕ)) → c ≢ 32
+    → joined b (c ∷ bytes) (word ∷ others) ≡ (b ∷ word) ∷ others
 joined_more b c bytes word others other =
     rw (ne_eqb c 32 other) refl
 
@@ -48,7 +50,8 @@ word_first [] rest is ends = absurd is
 word_first (b ∷ []) rest is ends = words-other b rest is.0 ∙ joined_last b rest (words rest) ends refl
 word_first (b ∷ c ∷ word) rest is ends =
     words-other b (c ∷ word ++ rest) is.0
-    ∙ (ap (joined b (c ∷ word ++ rest)) (word_first (c ∷ word) rest is.1 ends) ∙ joined_more b c (word ++ rest) (c ∷ word) (words rest) is.1.0)
+    ∙ (ap (joined b (c ∷ word ++ rest)) (word_first (c ∷ word) rest is.1 ends) ∙ joined_more b c (word ++ rest)
+    (c ∷ word) (words rest) is.1.0)
 
 pub spaced_ends : (ws : List (List ℕ)) → EndsWord (spaced ws)
 spaced_ends [] = tt
@@ -57,7 +60,8 @@ spaced_ends (w ∷ ws) = refl
 pub words_again : (ws : List (List ℕ)) → AllByRecursion IsWord ws → words (spaced ws) ≡ ws
 words_again [] are = words-nil
 words_again (w ∷ ws) are =
-    words-blank (w ++ spaced ws) ∙ (word_first w (spaced ws) are.0 (spaced_ends ws) ∙ ap (λ others. w ∷ others) (words_again ws are.1))
+    words-blank (w ++ spaced ws) ∙ (word_first w (spaced ws) are.0 (spaced_ends ws) ∙ ap (λ others. w ∷ others)
+    (words_again ws are.1))
 
 -- ---- no blank at the end
 
@@ -77,6 +81,7 @@ ends-last : (bytes word : List ℕ) → IsWord word → ends_blank (bytes ++ wor
 ends-last bytes [] is = absurd is
 ends-last bytes (b ∷ word) is = ends-behind bytes b word ∙ ends-word (b ∷ word) is
 
-pub spaced-ends : (w : List ℕ) (ws : List (List ℕ)) → AllByRecursion IsWord (w ∷ ws) → ends_blank (spaced (w ∷ ws)) ≡ false
+pub spaced-ends : (w : List ℕ) (ws : List (List ℕ)) → AllByRecursion IsWord (w ∷ ws) → ends_blank (spaced (w ∷ ws))
+    ≡ false
 spaced-ends w [] are = rw append-nil (ends-last (32 ∷ []) w are.0)
 spaced-ends w (v ∷ ws) are = ends-behind (32 ∷ w) 32 (v ++ spaced ws) ∙ spaced-ends v ws are.1

@@ -1,5 +1,6 @@
 -- The lines of a body, in order. Items before a place stand nearest first.
-use Rattle.std.specs.Prelude.{◌≡◌, ℕ, suc, ◌+◌, ◌<◌, ◌==◌, ◌&&◌, List, [], ◌∷◌, ◌++◌, length, take, Result, Ok, Err, Option, Some, None, option_and_then, if◌then◌else◌}
+use Rattle.std.specs.Prelude.{◌≡◌, ℕ, suc, ◌+◌, ◌<◌, ◌==◌, ◌&&◌, List, [], ◌∷◌, ◌++◌, length, take, Result, Ok, Err}
+use Rattle.std.specs.Prelude.{Option, Some, None, option_and_then, if◌then◌else◌}
 use Rattle.sccs_sid.specs.Reading.{◌>>=◌, only}
 use Rattle.sccs_history.specs.Numbers.{is_empty}
 use Rattle.sccs_history.specs.Body.{may_stand, is_over}
@@ -64,4 +65,5 @@ go_on n (Some item) more = more item >>= λ items. Ok (item ∷ items)
 -- bytes behind the last LF are no line
 unfoldable pub items_from : List ℕ → ℕ → List Item → List (List ℕ) → List ℕ → Result (List Item) ℕ
 items_from live n before [] tail = if is_over before && is_empty tail then Ok [] else Err n
-items_from live n before (line ∷ lines) tail = go_on n (item_at live before line) (λ item. items_from live (suc n) (item ∷ before) lines tail)
+items_from live n before (line ∷ lines) tail = go_on n (item_at live before line) (λ item. items_from live (suc n)
+    (item ∷ before) lines tail)

@@ -1,5 +1,6 @@
 -- What one line of an s-file says, by itself. A line that says nothing has no spelling anywhere.
-use Rattle.std.specs.Prelude.{ℕ, ◌==◌, Bool, true, false, not, ◌&&◌, ◌||◌, List, [], ◌∷◌, Option, Some, None, option_map, nat_lt, if◌then◌else◌}
+use Rattle.std.specs.Prelude.{ℕ, ◌==◌, Bool, true, false, not, ◌&&◌, ◌||◌, List, [], ◌∷◌, Option, Some, None}
+use Rattle.std.specs.Prelude.{option_map, nat_lt, if◌then◌else◌}
 use Rattle.sccs_base.specs.Login.{is_login}
 use Rattle.sccs_sid.specs.Reading.{only, number, skip}
 use Rattle.sccs_sid.specs.Sid.{sid_of}
@@ -7,7 +8,9 @@ use Rattle.sccs_sid.specs.Moment.{moment_of}
 use Rattle.sccs_history.specs.Numbers.{is_empty}
 use Rattle.sccs_sid.specs.Words.{◌>>=◌, one, found, begins_blank, ends_blank, skip_blanks, drop_blanks, words, three}
 use Rattle.sccs_tokens.specs.declared.line_tokens.LineToken.{LineToken}
-use Rattle.sccs_tokens.specs.declared.line_tokens.LineToken.TheVariants.{Counts, Delta, Listed, Mr, Comment, EndEntry, Users, EndUsers, FlagIs, Description, EndDescription, Insert, Delete, End, Plain}
+use Rattle.sccs_tokens.specs.declared.line_tokens.LineToken.TheVariants.{Counts, Delta, Listed, Mr, Comment, EndEntry}
+use Rattle.sccs_tokens.specs.declared.line_tokens.LineToken.TheVariants.{Users, EndUsers, FlagIs, Description}
+use Rattle.sccs_tokens.specs.declared.line_tokens.LineToken.TheVariants.{EndDescription, Insert, Delete, End, Plain}
 use Rattle.sccs_tokens.specs.declared.line_tokens.ListKind.TheVariants.{Included, Excluded, Ignored}
 
 -- 1 to 65535, in one to five digits
@@ -37,7 +40,22 @@ delta_of kind sid date time login own before = do
   who ← only (is_login login) login
   n ← serial own
   p ← predecessor before
-  Some (Delta (record { serial = n; removed = removed; sid = s; moment = m; login = who; predecessor = p; include = []; exclude = []; ignore = []; mrs = []; comments = []; inserted = 0; deleted = 0; unchanged = 0 }))
+  Some (Delta (record {
+    serial = n;
+    removed = removed;
+    sid = s;
+    moment = m;
+    login = who;
+    predecessor = p;
+    include = [];
+    exclude = [];
+    ignore = [];
+    mrs = [];
+    comments = [];
+    inserted = 0;
+    deleted = 0;
+    unchanged = 0;
+  }))
 
 -- the words, where there are seven
 abbrev pub exactly_seven : List (List ℕ) → Option (List (List ℕ))
@@ -74,7 +92,8 @@ is_set_off bytes = begins_blank bytes && not (ends_blank bytes)
 
 -- serials, each behind blanks; or blanks or nothing
 unfoldable pub listed : List ℕ → Option (List ℕ)
-listed bytes = if is_empty (skip_blanks bytes) then Some [] else if is_set_off bytes then serials (words bytes) else None
+listed bytes = if is_empty (skip_blanks bytes) then Some [] else if is_set_off bytes then serials (words bytes)
+    else None
 
 -- a text behind one blank, or no text
 abbrev pub text : List ℕ → Option (List ℕ)
@@ -84,7 +103,8 @@ text (b ∷ bytes) = only (b == 32) bytes
 -- a letter, and behind blanks its text, without blanks at the end
 abbrev pub flag : List ℕ → Option LineToken
 flag [] = None
-flag (letter ∷ bytes) = only (is_empty bytes || begins_blank bytes) (FlagIs (record { letter = letter; text = drop_blanks (skip_blanks bytes) }))
+flag (letter ∷ bytes) = only (is_empty bytes || begins_blank bytes)
+    (FlagIs (record { letter = letter; text = drop_blanks (skip_blanks bytes) }))
 
 -- without the zeros in front
 abbrev pub drop_zeros : List ℕ → List ℕ

@@ -1,5 +1,6 @@
 -- The one written spelling.
-use Rattle.std.specs.Prelude.{◌≡◌, ◌<◌, Bool, false, if◌then◌else◌, ℕ, ◌+◌, ◌/◌, ◌%◌, List, [], ◌∷◌, ◌++◌, map, flat_map, decimal}
+use Rattle.std.specs.Prelude.{◌≡◌, ◌<◌, Bool, false, if◌then◌else◌, ℕ, ◌+◌, ◌/◌, ◌%◌, List, [], ◌∷◌, ◌++◌, map}
+use Rattle.std.specs.Prelude.{flat_map, decimal}
 use Rattle.sccs_base.specs.Cut.{HasNoLf}
 use Rattle.sccs_sid.specs.Sid.{sid_text}
 use Rattle.sccs_sid.specs.Moment.{date_text, time_text}
@@ -45,7 +46,8 @@ kind_of removed = (if removed then 82 else 68) ∷ []
 
 abbrev pub delta_words : Record → List (List ℕ)
 delta_words r =
-    kind_of r.removed ∷ sid_text r.sid ∷ date_text r.moment ∷ time_text r.moment ∷ r.login ∷ decimal r.serial ∷ decimal r.predecessor ∷ []
+    kind_of r.removed ∷ sid_text r.sid ∷ date_text r.moment ∷ time_text r.moment ∷ r.login ∷ decimal r.serial
+    ∷ decimal r.predecessor ∷ []
 
 abbrev pub delta_line : Record → List ℕ
 delta_line r = 1 ∷ 100 ∷ spaced (delta_words r)
@@ -76,7 +78,8 @@ mark letter = 1 ∷ letter ∷ []
 abbrev pub entry_lines : Record → List (List ℕ) → List (List ℕ)
 entry_lines r rest =
     counts_line r.inserted r.deleted r.unchanged ∷ delta_line r
-    ∷ (list_lines 105 r.include ++ (list_lines 120 r.exclude ++ (list_lines 103 r.ignore ++ (map mr_line r.mrs ++ (map comment_line r.comments ++ (end_line ∷ rest))))))
+    ∷ (list_lines 105 r.include ++ (list_lines 120 r.exclude ++ (list_lines 103 r.ignore
+    ++ (map mr_line r.mrs ++ (map comment_line r.comments ++ (end_line ∷ rest))))))
 
 abbrev pub table_lines : List Record → List (List ℕ) → List (List ℕ)
 table_lines [] rest = rest
@@ -98,7 +101,17 @@ item_line (End n) = 1 ∷ 69 ∷ spaced (decimal n ∷ [])
 -- what a delta line says of a record: neither lists nor MRs, comments and counts
 abbrev pub delta_part : Record → Record
 delta_part r =
-    record r { include = []; exclude = []; ignore = []; mrs = []; comments = []; inserted = 0; deleted = 0; unchanged = 0 }
+    record r {
+      include = [];
+      exclude = [];
+      ignore = [];
+      mrs = [];
+      comments = [];
+      inserted = 0;
+      deleted = 0;
+      unchanged =
+          0;
+    }
 
 -- 1 to 65535
 abbrev pub IsSerial : ℕ → Type 0
@@ -116,7 +129,8 @@ IsItem (End n) = IsSerial n
 -- a header behind the sum line, before the lines of a body
 abbrev pub header_lines : Header → List (List ℕ) → List (List ℕ)
 header_lines h rest =
-    table_lines h.records (mark 117 ∷ h.users ++ (mark 85 ∷ map flag_line h.flags ++ (mark 116 ∷ h.description ++ (mark 84 ∷ rest))))
+    table_lines h.records (mark 117 ∷ h.users ++ (mark 85 ∷ map flag_line h.flags ++ (mark 116 ∷ h.description
+    ++ (mark 84 ∷ rest))))
 
 abbrev pub bytes_behind : Header → List Item → List ℕ
 bytes_behind header items = bytes_of (header_lines header (map item_line items))

@@ -1,5 +1,6 @@
 //! The lines of a body.
-ghost use Rattle.std.specs.Prelude.{◌≡◌, ◌≢◌, ◌∷◌, ◌++◌, ◌+◌, ◌<◌, ◌≤◌, ◌&&◌, IsTrue, List, ℕ, Ok, Some, drop, length, nat_lt, not, option_map, decimal, IfOk, IfSome};
+ghost use Rattle.std.specs.Prelude.{◌≡◌, ◌≢◌, ◌∷◌, ◌++◌, ◌+◌, ◌<◌, ◌≤◌, ◌&&◌, IsTrue, List, ℕ, Ok, Some, drop, length};
+ghost use Rattle.std.specs.Prelude.{nat_lt, not, option_map, decimal, IfOk, IfSome};
 ghost use Rattle.sccs_base.specs.Cut.{HasNoLf};
 ghost use Rattle.sccs_tokens.specs.Items.{IsWrittenItem, IsWrittenSerial, item_behind, item_for, item_read};
 ghost use Rattle.sccs_tokens.specs.Written.{IsSerial};
@@ -92,7 +93,8 @@ fn is_written(n: u32, bytes: &[u8], rest: &[u8]) -> bool
 // a serial as it is written, of one to five digits, before LF, and how many bytes it has
 fn any_serial(bytes: &[u8]) -> Option<(u16, usize)>
     ensures sound { IfSome result (λ x. IsWrittenSerial bytes.now x.0 x.1) }
-    ensures again { (n : ℕ) (rest : List ℕ) → IsSerial n → bytes.now ≡ decimal n ++ 10 ∷ rest → result ≡ Some (n, length (decimal n)) }
+    ensures again { (n : ℕ) (rest : List ℕ) → IsSerial n → bytes.now ≡ decimal n ++ 10 ∷ rest
+        → result ≡ Some (n, length (decimal n)) }
 {
     let Ok((n, rest)) = number_at(5, bytes) else {
         return None;
@@ -119,7 +121,8 @@ const FOUR_ZEROS: u32 = 1111 * b'0' as u32;
 // tests of four digits are made at once, and each value would have to be taken out of them
 #[inline(always)]
 fn four_digits(a: u8, b: u8, c: u8, d: u8) -> Option<u32>
-    ensures read { IfSome result (λ n. (rest : List ℕ) → number_spec 5 (a ∷ b ∷ c ∷ d ∷ rest) ≡ Ok (digits_after 1 n rest)) }
+    ensures read { IfSome result (λ n. (rest : List ℕ) → number_spec 5 (a ∷ b ∷ c ∷ d ∷ rest) ≡ Ok
+        (digits_after 1 n rest)) }
     ensures small { IfSome result (λ n. (0 < n) × (n < 10000)) }
     ensures plain { IfSome result (λ n. a ≢ 48) }
 {
@@ -135,7 +138,11 @@ fn four_digits(a: u8, b: u8, c: u8, d: u8) -> Option<u32>
 #[inline(always)]
 fn with_digit(four: u32, e: u8, f: u8) -> (u32, u8, usize)
     requires { four < 10000 }
-    ensures read { (rest : List ℕ) → result.1 ≡ 10 → digits_after 1 four (e ∷ f ∷ rest) ≡ (result.0, 10 ∷ drop result.2 (f ∷ rest)) }
+    ensures read { (rest : List ℕ) → result.1 ≡ 10 → digits_after 1 four (e ∷ f ∷ rest) ≡ (
+      result.0,
+      10 ∷ drop result.2
+          (f ∷ rest),
+    ) }
     ensures count { result.2 ≤ 1 }
     ensures more { four ≤ result.0 }
 {
@@ -151,7 +158,8 @@ fn with_digit(four: u32, e: u8, f: u8) -> (u32, u8, usize)
 #[inline(always)]
 fn long_serial(bytes: &[u8]) -> Option<(u16, usize)>
     ensures sound { IfSome result (λ x. IsWrittenSerial bytes.now x.0 x.1) }
-    ensures again { IfSome result (λ x. (n : ℕ) (rest : List ℕ) → IsSerial n → bytes.now ≡ decimal n ++ 10 ∷ rest → x ≡ (n, length (decimal n))) }
+    ensures again { IfSome result (λ x. (n : ℕ) (rest : List ℕ) → IsSerial n → bytes.now ≡ decimal n ++ 10 ∷ rest
+        → x ≡ (n, length (decimal n))) }
 {
     let [a, b, c, d, e, f, ..] = bytes else {
         return None;
@@ -169,7 +177,8 @@ fn long_serial(bytes: &[u8]) -> Option<(u16, usize)>
 #[inline(always)]
 fn written_serial(bytes: &[u8]) -> Option<(u16, usize)>
     ensures sound { IfSome result (λ x. IsWrittenSerial bytes.now x.0 x.1) }
-    ensures again { (n : ℕ) (rest : List ℕ) → IsSerial n → bytes.now ≡ decimal n ++ 10 ∷ rest → result ≡ Some (n, length (decimal n)) }
+    ensures again { (n : ℕ) (rest : List ℕ) → IsSerial n → bytes.now ≡ decimal n ++ 10 ∷ rest
+        → result ≡ Some (n, length (decimal n)) }
 {
     if let Some(found) = long_serial(bytes) {
         return Some(found);
@@ -182,7 +191,8 @@ fn written_serial(bytes: &[u8]) -> Option<(u16, usize)>
 fn item_of_letter(letter: u8, serial: u16) -> Option<Item>
     ensures value { result ≡ item_for letter serial }
     ensures other { IfSome result (λ _. letter ≢ 10) }
-    ensures item { IfSome result (λ item. (word : List ℕ) → place_spec word ≡ Some serial → item_behind letter word ≡ Some item) }
+    ensures item { IfSome result (λ item. (word : List ℕ) → place_spec word ≡ Some serial → item_behind letter word
+        ≡ Some item) }
 {
     match letter {
         b'I' => Some(Item::Insert(serial)),

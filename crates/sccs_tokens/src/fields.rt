@@ -2,7 +2,8 @@
 ghost use Rattle.std.specs.Prelude.{◌≡◌, ◌+◌, ◌<◌, ◌^◌, ◌≤◌, List, ◌∷◌, Some, length, map, option_map, IfOk, IfSome};
 ghost use Rattle.sccs_base.specs.Cut.{HasNoLf};
 ghost use Rattle.sccs_sid.specs.Words.{words};
-ghost use Rattle.sccs_tokens.specs.Tokens.{drop_zeros, is_removed, is_set_off, listed, padded_serial, serial_field, plain_serial, predecessor, serial, serials, text};
+ghost use Rattle.sccs_tokens.specs.Tokens.{drop_zeros, is_removed, is_set_off, listed, padded_serial, serial_field};
+ghost use Rattle.sccs_tokens.specs.Tokens.{plain_serial, predecessor, serial, serials, text};
 
 use sccs_base::{Line, Memory};
 use sccs_history::Serials;

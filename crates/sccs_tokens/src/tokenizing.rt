@@ -1,11 +1,13 @@
 //! What one line says.
-ghost use Rattle.std.specs.Prelude.{◌≡◌, ◌≢◌, ◌||◌, ◌<◌, [], ◌∷◌, ◌++◌, IsTrue, None, Some, option_map, if◌then◌else◌, IfOk, IfSome, MatchOption};
+ghost use Rattle.std.specs.Prelude.{◌≡◌, ◌≢◌, ◌||◌, ◌<◌, [], ◌∷◌, ◌++◌, IsTrue, None, Some, option_map, if◌then◌else◌};
+ghost use Rattle.std.specs.Prelude.{IfOk, IfSome, MatchOption};
 ghost use Rattle.sccs_base.specs.Cut.{HasNoLf};
 ghost use Rattle.sccs_history.specs.Numbers.{is_empty};
 ghost use Rattle.sccs_sid.specs.Reading.{only};
 ghost use Rattle.sccs_sid.specs.Words.{begins_blank, drop_blanks, skip_blanks, words};
 ghost use Rattle.sccs_tokens.specs.Written.{five};
-ghost use Rattle.sccs_tokens.specs.Tokens.{behind_soh, body_control, control, count_token, delta_token, delta_of, exactly_seven, flag, listed, part_control, token, text};
+ghost use Rattle.sccs_tokens.specs.Tokens.{behind_soh, body_control, control, count_token, delta_token, delta_of};
+ghost use Rattle.sccs_tokens.specs.Tokens.{exactly_seven, flag, listed, part_control, token, text};
 
 use crate::boxed_records::BoxedRecord;
 use crate::fields::{
@@ -70,7 +72,8 @@ fn date_word(bytes: &[u8]) -> Option<(&[u8], &[u8])>
 
 // exactly seven words
 fn delta_words(bytes: &[u8]) -> Option<DeltaWords<'_>>
-    ensures { option_map (λ w. w.kind.now ∷ w.sid.now ∷ w.date.now ∷ w.time.now ∷ w.login.now ∷ w.serial.now ∷ w.predecessor.now ∷ []) result
+    ensures { option_map (λ w. w.kind.now ∷ w.sid.now ∷ w.date.now ∷ w.time.now ∷ w.login.now ∷ w.serial.now
+        ∷ w.predecessor.now ∷ []) result
         ≡ exactly_seven (words bytes.now) }
 {
     let (kind, rest) = first_word(bytes)?;
@@ -94,7 +97,8 @@ fn delta_words(bytes: &[u8]) -> Option<DeltaWords<'_>>
 // a record without lists, MRs, comments and counts
 #[tactic(auto, unfolding(crate::specs::Tokens::delta_of))]
 fn record_of(alloc: Global, words: &DeltaWords<'_>) -> Option<Record>
-    ensures { option_map LineToken.Delta result ≡ delta_of words.now.kind.now words.now.sid.now words.now.date.now words.now.time.now
+    ensures { option_map LineToken.Delta result ≡ delta_of words.now.kind.now words.now.sid.now words.now.date.now
+        words.now.time.now
         words.now.login.now words.now.serial.now words.now.predecessor.now }
 {
     let removed = removed(words.kind)?;

@@ -10,7 +10,8 @@ release_or_one : (release : Option ℕ) → IfSome release IsComponent → IsCom
 release_or_one None valid = grind arith
 release_or_one (Some release) valid = valid
 
-pub admin_values : (words : AdminWords) (stamp : Stamp) → IfSome words.release IsComponent → IsMoment stamp.moment → AreAdminValues words stamp
+pub admin_values : (words : AdminWords) (stamp : Stamp) → IfSome words.release IsComponent → IsMoment stamp.moment
+    → AreAdminValues words stamp
 admin_values words stamp release moment = record {
   release = release_or_one words.release release;
   moment = moment;

@@ -10,10 +10,12 @@ use Rattle.sccs_top.specs.declared.asking.Asked.{Asked}
 use Rattle.sccs_top.specs.declared.asking.Asked.TheVariants as ask
 use Rattle.sccs_top.specs.Runs.{Caller, run_portions, words_recover}
 
-pub recovery_known : (who : Caller) (words : Result Asked Usage) (told : Told) (folder : Folder) (i : List ℕ) → words_recover words ≡ true → RecoversTold told folder → AreKnown told folder (run_portions who words folder i)
+pub recovery_known : (who : Caller) (words : Result Asked Usage) (told : Told) (folder : Folder) (i : List ℕ)
+    → words_recover words ≡ true → RecoversTold told folder → AreKnown told folder (run_portions who words folder i)
 recovery_known who (Ok (ask.One (c.Recover operands))) told folder i is recovers = inr (inr (recovers, (refl, tt)))
 recovery_known who words told folder i is recovers = absurd cc
 
 -- a folder that is told recovers as itself
 pub told_exactly : (told : Told) (folder : Folder) → seen told ≡ Some (view_in folder) → RecoversTold told folder
-told_exactly told folder is = subst (λ (o : Option View). IfSome o (λ (u : View). RecoversAs (view_in folder) u)) (sym is) (λ n sfile. refl)
+told_exactly told folder is = subst (λ (o : Option View). IfSome o (λ (u : View). RecoversAs (view_in folder) u))
+    (sym is) (λ n sfile. refl)

@@ -23,12 +23,22 @@ use Rattle.sccs_top.specs.MadeHistories.{IsReplayed}
 effect_is : (a b : StepEffect) → (let r : Outcome = Ok a in r) ≡ Ok b → a ≡ b
 effect_is a b is = cc
 
-new_is : (s : Content) (f : Files) (effect : StepEffect) → makes s f ≡ Ok effect → Some (record { s = Some s; p = f.p; z = None; g = f.g; l = f.l }) ≡ effect.new
-new_is s f effect is = ap (λ (e : StepEffect). e.new) (effect_is (record { new = Some (record { s = Some s; p = f.p; z = None; g = f.g; l = f.l }); text = []; out = []; err = []; status = 0 }) effect is)
+new_is : (s : Content) (f : Files) (effect : StepEffect) → makes s f ≡ Ok effect
+    → Some (record { s = Some s; p = f.p; z = None; g = f.g; l = f.l }) ≡ effect.new
+new_is s f effect is = ap (λ (e : StepEffect). e.new)
+    (effect_is (record {
+      new = Some (record { s = Some s; p = f.p; z = None; g = f.g; l = f.l });
+      text = [];
+      out = [];
+      err = [];
+      status = 0;
+    }) effect is)
 
-pub made_replayed : (words : AdminWords) (stamp : Stamp) (n input : List ℕ) (named : List (Option Content)) (f : Files) (effect : StepEffect) (calls : List DeltaCall)
+pub made_replayed : (words : AdminWords) (stamp : Stamp) (n input : List ℕ) (named : List (Option Content)) (f : Files)
+    (effect : StepEffect) (calls : List DeltaCall)
     → AreAdminValues words stamp → IsLogin stamp.login → IfSome words.comment AreLines → AreLines words.mrs
-    → admin_outcome words stamp n input named f ≡ Ok effect → AllByRecursion IsDeltaCall calls → IsReplayed words n input named f effect calls
+    → admin_outcome words stamp n input named f ≡ Ok effect → AllByRecursion IsDeltaCall calls
+    → IsReplayed words n input named f effect calls
 unfolding admin_outcome
 made_replayed words stamp n input named f effect calls values login comment mrs is are =
     let texts = passed (found_texts words input named f.s) _ effect is in

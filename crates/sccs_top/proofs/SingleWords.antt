@@ -1,10 +1,12 @@
 -- Words that begin neither with batch nor with soak mean no list of commands.
-use Rattle.std.specs.Prelude.{◌≡◌, ℕ, Bool, true, false, not, ◌||◌, List, [], ◌∷◌, codes, option_and_then, Option, None, Some, IfOk, IfSome, Result, if◌then◌else◌}
+use Rattle.std.specs.Prelude.{◌≡◌, ℕ, Bool, true, false, not, ◌||◌, List, [], ◌∷◌, codes, option_and_then, Option, None}
+use Rattle.std.specs.Prelude.{Some, IfOk, IfSome, Result, if◌then◌else◌}
 use Rattle.std.specs.Str.{bytes_eq}
 use Rattle.std.proofs.Common.{refl}
 use Rattle.sccs_sid.specs.declared.sids.Sid.{Sid}
 use Rattle.sccs_words.specs.Letters as opt
-use Rattle.sccs_words.specs.Meaning.{first_text, line_command, line_meaning, meaning, meaning_by, own_utility, unless_fault, utility_of, with_changes, with_name, with_sid, words_fault}
+use Rattle.sccs_words.specs.Meaning.{first_text, line_command, line_meaning, meaning, meaning_by, own_utility}
+use Rattle.sccs_words.specs.Meaning.{unless_fault, utility_of, with_changes, with_name, with_sid, words_fault}
 use Rattle.sccs_words.specs.Records.{value_of}
 use Rattle.sccs_words.specs.Scan.{CommandLine, scanned}
 use Rattle.sccs_words.specs.Synopsis.{options_of}
@@ -35,11 +37,13 @@ sid_single : (operands : List (List ℕ)) (n : ℕ) (sid : Option Sid) → IsSin
 sid_single operands n None = tt
 sid_single operands n (Some sid) = refl
 
-changes_single : (uses : List Use) (operands : List (List ℕ)) (n : ℕ) (sid : Option Sid) → IsSingleMeant (with_changes uses operands n sid)
+changes_single : (uses : List Use) (operands : List (List ℕ)) (n : ℕ) (sid : Option Sid)
+    → IsSingleMeant (with_changes uses operands n sid)
 changes_single uses operands n None = tt
 changes_single uses operands n (Some sid) = refl
 
-command_single : (utility : Utility) (l : CommandLine) (n : ℕ) → IsOfSingles utility → IsSingleMeant (line_command utility l n)
+command_single : (utility : Utility) (l : CommandLine) (n : ℕ) → IsOfSingles utility
+    → IsSingleMeant (line_command utility l n)
 command_single u.Admin l n of = refl
 command_single u.Get l n of = refl
 command_single u.Delta l n of = named_single l.uses n (option_and_then name_value (first_text l.operands))
@@ -58,26 +62,32 @@ command_single u.Group l n of = refl
 command_single u.Batch l n of = absurd of
 command_single u.Soak l n of = absurd of
 
-unless_single : (fault : Option Usage) (meant : Result Command Usage) → IsSingleMeant meant → IsSingleMeant (unless_fault fault meant)
+unless_single : (fault : Option Usage) (meant : Result Command Usage) → IsSingleMeant meant
+    → IsSingleMeant (unless_fault fault meant)
 unless_single None meant single = single
 unless_single (Some usage) meant single = tt
 
-line_single : (utility : Utility) (l : CommandLine) (n : ℕ) → IsOfSingles utility → IsSingleMeant (line_meaning utility l n)
+line_single : (utility : Utility) (l : CommandLine) (n : ℕ) → IsOfSingles utility
+    → IsSingleMeant (line_meaning utility l n)
 unfolding line_meaning
-line_single utility l n of = unless_single (words_fault utility l n) (line_command utility l n) (command_single utility l n of)
+line_single utility l n of = unless_single (words_fault utility l n) (line_command utility l n)
+    (command_single utility l n of)
 
-utility_single : (utility : Option Utility) (words : List (List ℕ)) → IfSome utility IsOfSingles → IsSingleMeant (meaning_by utility words)
+utility_single : (utility : Option Utility) (words : List (List ℕ)) → IfSome utility IsOfSingles
+    → IsSingleMeant (meaning_by utility words)
 utility_single None words of = tt
 utility_single (Some utility) words of = line_single utility (scanned (options_of utility) 2 [] None words) _ of
 
 -- ---- by the first word
 
-either : (t : Bool) (a b : Option Utility) → IfSome a IsOfSingles → IfSome b IsOfSingles → IfSome (if t then a else b) IsOfSingles
+either : (t : Bool) (a b : Option Utility) → IfSome a IsOfSingles → IfSome b IsOfSingles
+    → IfSome (if t then a else b) IsOfSingles
 either true a b first second = first
 either false a b first second = second
 
 -- a test that fails passes the other on
-passed_by : (t : Bool) (a b : Option Utility) → t ≡ false → IfSome b IsOfSingles → IfSome (if t then a else b) IsOfSingles
+passed_by : (t : Bool) (a b : Option Utility) → t ≡ false → IfSome b IsOfSingles
+    → IfSome (if t then a else b) IsOfSingles
 passed_by true a b is second = absurd (cc)
 passed_by false a b is second = second
 
@@ -86,15 +96,20 @@ both_false true b is = absurd (cc)
 both_false false true is = absurd (cc)
 both_false false false is = (refl, refl)
 
-own_single : (word : List ℕ) → not (bytes_eq word (codes "batch") || bytes_eq word (codes "soak")) ≡ true → IfSome (own_utility word) IsOfSingles
+own_single : (word : List ℕ) → not (bytes_eq word (codes "batch") || bytes_eq word (codes "soak")) ≡ true
+    → IfSome (own_utility word) IsOfSingles
 own_single word is =
     let both = both_false (bytes_eq word (codes "batch")) (bytes_eq word (codes "soak")) is in
     either (bytes_eq word (codes "recover")) (Some u.Recover) _ tt
     (either (bytes_eq word (codes "tell")) (Some u.Tell) _ tt
     (either (bytes_eq word (codes "check")) (Some u.Check) _ tt
-    (either (bytes_eq word (codes "import")) (Some u.Import) _ tt (passed_by (bytes_eq word (codes "batch")) (Some u.Batch) _ both.0 (either (bytes_eq word (codes "group")) (Some u.Group) _ tt (passed_by (bytes_eq word (codes "soak")) (Some u.Soak) _ both.1 (either (bytes_eq word (codes "cdc")) (Some u.Cdc) None tt tt)))))))
+    (either (bytes_eq word (codes "import")) (Some u.Import) _ tt (passed_by (bytes_eq word (codes "batch"))
+    (Some u.Batch) _ both.0 (either (bytes_eq word (codes "group")) (Some u.Group) _ tt
+    (passed_by (bytes_eq word (codes "soak")) (Some u.Soak) _ both.1 (either (bytes_eq word (codes "cdc"))
+    (Some u.Cdc) None tt tt)))))))
 
-word_single : (word : List ℕ) → not (bytes_eq word (codes "batch") || bytes_eq word (codes "soak")) ≡ true → IfSome (utility_of word) IsOfSingles
+word_single : (word : List ℕ) → not (bytes_eq word (codes "batch") || bytes_eq word (codes "soak")) ≡ true
+    → IfSome (utility_of word) IsOfSingles
 unfolding utility_of
 word_single word is =
     either (bytes_eq word (codes "admin")) (Some u.Admin) _ tt

@@ -12,8 +12,10 @@ use Rattle.sccs_admin.specs.declared.finding.NewTexts.{NewTexts}
 use Rattle.sccs_delta.specs.NewVersions.{version_text}
 use Rattle.sccs_delta.specs.Replays.{DeltaCall, ReplaysVersions}
 
--- The new s-file has one delta, whose version is the lines of the text; behind the calls each version is its replay from there.
-pub record IsReplayed (words : AdminWords) (n input : List ℕ) (named : List (Option Content)) (f : Files) (effect : StepEffect) (calls : List DeltaCall) : Type 0 where
+-- The new s-file has one delta, whose version is the lines of the text; behind the calls each version is its replay
+-- from there.
+pub record IsReplayed (words : AdminWords) (n input : List ℕ) (named : List (Option Content)) (f : Files)
+    (effect : StepEffect) (calls : List DeltaCall) : Type 0 where
   pub texts : NewTexts
   pub s : Content
   pub file : Parsed

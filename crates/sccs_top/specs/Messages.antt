@@ -17,4 +17,5 @@ usage_text kind =
 
 -- the line that says it, with the number of the word
 abbrev pub usage_line : Usage → List ℕ
-usage_line usage = codes "USAGE: " ++ (usage_text usage.kind ++ (codes " (word " ++ (decimal usage.word ++ codes ")\n")))
+usage_line usage = codes "USAGE: " ++ (usage_text usage.kind
+    ++ (codes " (word " ++ (decimal usage.word ++ codes ")\n")))

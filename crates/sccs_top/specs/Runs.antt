@@ -1,5 +1,6 @@
 -- What a run does: the steps that its words mean, one for each operand in their order.
-use Rattle.std.specs.Prelude.{◌≡◌, ℕ, ◌<◌, nat_lt, ◌⊎◌, Bool, true, false, not, ◌||◌, ◌&&◌, List, [], ◌∷◌, length, Option, None, Some, is_some, Result, Ok, Err, codes, if◌then◌else◌}
+use Rattle.std.specs.Prelude.{◌≡◌, ℕ, ◌<◌, nat_lt, ◌⊎◌, Bool, true, false, not, ◌||◌, ◌&&◌, List, [], ◌∷◌, length}
+use Rattle.std.specs.Prelude.{Option, None, Some, is_some, Result, Ok, Err, codes, if◌then◌else◌}
 use Rattle.std.specs.List.{AllByRecursion, list_any}
 use Rattle.sccs_disk.specs.Files.{Folder, Model, view_in}
 use Rattle.sccs_disk.specs.Told.{Told, Tells, seen}
@@ -46,8 +47,10 @@ use Rattle.sccs_prs.specs.PrsStep.{prs_action}
 use Rattle.sccs_val.specs.ValStep.{val_action, val_operands, val_steps}
 use Rattle.sccs_what.specs.Checks.{what_keeps}
 use Rattle.sccs_what.specs.WhatStep.{what_action}
-use Rattle.sccs_step_lists.specs.StepLists.{AllExempt, AllPlain, AllSafe, StepLists, Portion, TakesSfiles, follow, if_fine, no_action, portion_of, portions_of, saying, steps_along}
-use Rattle.sccs_step_lists.specs.Following.{AreKnown, BegunThen, StepListCrashPoints, RunsStepList, RunsTo, SpeaksTo, WholeBy, WholeThen}
+use Rattle.sccs_step_lists.specs.StepLists.{AllExempt, AllPlain, AllSafe, StepLists, Portion, TakesSfiles, follow}
+use Rattle.sccs_step_lists.specs.StepLists.{if_fine, no_action, portion_of, portions_of, saying, steps_along}
+use Rattle.sccs_step_lists.specs.Following.{AreKnown, BegunThen, StepListCrashPoints, RunsStepList, RunsTo, SpeaksTo}
+use Rattle.sccs_step_lists.specs.Following.{WholeBy, WholeThen}
 use Rattle.sccs_step_lists.specs.OwnFiles.{IsGivenTo, working_along}
 use Rattle.sccs_step_lists.specs.Sayings.{BegunSaid, WholeSaid}
 use Rattle.sccs_step_lists.specs.WhileFine.{BegunIfFine, WholeIfFine}
@@ -101,7 +104,8 @@ freeing who freed = record { stamp = who.stamp; place = who.place; quiet = who.q
 
 -- get: with -e an edit is reserved
 abbrev pub get_in : GetWords → Caller → Bool → Action
-get_in words who heading = if words.edit then locking (edit_change words who.stamp who.place heading) else get_action words who.stamp who.place heading
+get_in words who heading = if words.edit then locking (edit_change words who.stamp who.place heading)
+    else get_action words who.stamp who.place heading
 
 -- admin on an s-file that is there: with -h it is checked alone
 abbrev pub admin_there : AdminWords → Action
@@ -140,25 +144,45 @@ val_takes words = λ changes n fits. absurd (cc)
 abbrev pub single_of : Command → Single
 single_of (c.Admin words operands) =
     single (λ who. admin_in words who.stamp) (words_in operands) (λ who.
-    either_takes words.fresh (locking (admin_change words who.stamp)) (admin_there words) (locking_keeps (admin_change words who.stamp)).names
-    (either_takes words.check check_action (locking (alter_change words)) check_keeps.names (locking_keeps (alter_change words)).names))
+    either_takes words.fresh (locking (admin_change words who.stamp)) (admin_there words)
+    (locking_keeps (admin_change words who.stamp)).names
+    (either_takes words.check check_action (locking (alter_change words)) check_keeps.names
+    (locking_keeps (alter_change words)).names))
 single_of (c.Get words operands) =
     single (λ who. get_in words who (has_heading operands)) (words_in operands) (λ who.
-    either_takes words.edit (locking (edit_change words who.stamp who.place (has_heading operands))) (get_action words who.stamp who.place (has_heading operands))
-    (locking_keeps (edit_change words who.stamp who.place (has_heading operands))).names (get_keeps words who.stamp who.place (has_heading operands)).names)
-single_of (c.Delta words name) = single (λ who. locking (delta_change words who.stamp)) (name ∷ []) (λ who. (locking_keeps (delta_change words who.stamp)).names)
+    either_takes words.edit (locking (edit_change words who.stamp who.place (has_heading operands)))
+    (get_action words who.stamp who.place (has_heading operands))
+    (locking_keeps (edit_change words who.stamp who.place (has_heading operands))).names
+    (get_keeps words who.stamp who.place (has_heading operands)).names)
+single_of (c.Delta words name) = single (λ who. locking (delta_change words who.stamp)) (name ∷ [])
+    (λ who. (locking_keeps (delta_change words who.stamp)).names)
 single_of (c.Unget words operands) =
-    single (λ who. locking (unget_change words who.stamp (has_heading operands))) (words_in operands) (λ who. (locking_keeps (unget_change words who.stamp (has_heading operands))).names)
-single_of (c.Sact operands) = single (λ who. sact_action (has_heading operands)) (words_in operands) (λ who. (sact_keeps (has_heading operands)).names)
-single_of (c.Tell operands) = single (λ who. pending_action false) (words_in operands) (λ who. (pending_keeps false).names)
-single_of (c.Check operands) = single (λ who. pending_action true) (words_in operands) (λ who. (pending_keeps true).names)
-single_of (c.Rmdel sid operands) = single (λ who. locking (rmdel_change sid who.stamp)) (words_in operands) (λ who. (locking_keeps (rmdel_change sid who.stamp)).names)
-single_of (c.Cdc words operands) = single (λ who. locking (cdc_change words who.stamp)) (words_in operands) (λ who. (locking_keeps (cdc_change words who.stamp)).names)
-single_of (c.Prs words operands) = single (λ who. prs_action words who.place) (words_in operands) (λ who. (prs_keeps words who.place).names)
-single_of (c.What first operands) = single (λ who. what_action first) (words_in operands) (λ who. (what_keeps first).names)
-single_of (c.Recover operands) = single (λ who. recover_action who.freed) (words_in operands) (λ who. (recover_keeps who.freed).names)
-single_of (c.Import operands) = single (λ who. locking (import_change (has_heading operands))) (words_in operands) (λ who. (locking_keeps (import_change (has_heading operands))).names)
-single_of (c.Val words) = record { by = λ who. val_action words; operands = val_operands words; val = Some words; takes = λ who. val_takes words }
+    single (λ who. locking (unget_change words who.stamp (has_heading operands))) (words_in operands)
+    (λ who. (locking_keeps (unget_change words who.stamp (has_heading operands))).names)
+single_of (c.Sact operands) = single (λ who. sact_action (has_heading operands)) (words_in operands)
+    (λ who. (sact_keeps (has_heading operands)).names)
+single_of (c.Tell operands) = single (λ who. pending_action false) (words_in operands)
+    (λ who. (pending_keeps false).names)
+single_of (c.Check operands) = single (λ who. pending_action true) (words_in operands)
+    (λ who. (pending_keeps true).names)
+single_of (c.Rmdel sid operands) = single (λ who. locking (rmdel_change sid who.stamp)) (words_in operands)
+    (λ who. (locking_keeps (rmdel_change sid who.stamp)).names)
+single_of (c.Cdc words operands) = single (λ who. locking (cdc_change words who.stamp)) (words_in operands)
+    (λ who. (locking_keeps (cdc_change words who.stamp)).names)
+single_of (c.Prs words operands) = single (λ who. prs_action words who.place) (words_in operands)
+    (λ who. (prs_keeps words who.place).names)
+single_of (c.What first operands) = single (λ who. what_action first) (words_in operands)
+    (λ who. (what_keeps first).names)
+single_of (c.Recover operands) = single (λ who. recover_action who.freed) (words_in operands)
+    (λ who. (recover_keeps who.freed).names)
+single_of (c.Import operands) = single (λ who. locking (import_change (has_heading operands))) (words_in operands)
+    (λ who. (locking_keeps (import_change (has_heading operands))).names)
+single_of (c.Val words) = record {
+  by = λ who. val_action words;
+  operands = val_operands words;
+  val = Some words;
+  takes = λ who. val_takes words;
+}
 single_of c.Group = no_single
 single_of c.Batch = no_single
 single_of (c.Soak number) = no_single
@@ -180,13 +204,15 @@ hushed None false x = x
 abbrev pub action_of : Caller → Command → Action
 action_of who command = hushed (val_words_of command) who.quiet ((single_of command).by who)
 
-pub hushed_takes : (val : Option ValWords) (quiet : Bool) (x : Action) → TakesSfiles x → TakesSfiles (hushed val quiet x)
+pub hushed_takes : (val : Option ValWords) (quiet : Bool) (x : Action) → TakesSfiles x
+    → TakesSfiles (hushed val quiet x)
 hushed_takes (Some words) quiet x takes = takes
 hushed_takes None true x takes = takes
 hushed_takes None false x takes = takes
 
 pub action_takes : (who : Caller) (command : Command) → TakesSfiles (action_of who command)
-action_takes who command = hushed_takes (val_words_of command) who.quiet ((single_of command).by who) ((single_of command).takes who)
+action_takes who command = hushed_takes (val_words_of command) who.quiet ((single_of command).by who)
+    ((single_of command).takes who)
 
 -- the steps of a command in a folder, with an input
 abbrev pub steps_by : Option ValWords → Action → List (List ℕ) → Folder → List ℕ → List NamedStep
@@ -194,13 +220,15 @@ steps_by None x operands m i = steps_at x m i operands
 steps_by (Some words) x operands m i = val_steps words m i
 
 -- what such steps answer and write on err, over any disk
-abbrev pub SpeakSteps : Option ValWords → Action → List (List ℕ) → Result ℕ Fault → Option (List ℕ) → Option (List ℕ) → Type 0
+abbrev pub SpeakSteps : Option ValWords → Action → List (List ℕ) → Result ℕ Fault → Option (List ℕ) → Option (List ℕ)
+    → Type 0
 SpeakSteps None x operands = SpeakAll x operands
 SpeakSteps (Some words) x operands = SpeaksOne x (codes "-")
 
 -- a call that makes the steps of a command
 abbrev pub RunsCommand : Option ValWords → Action → List (List ℕ) → Result ℕ Fault → Setting → Setting → Type 0
-RunsCommand val x operands r s = RunsSteps x (steps_by val x operands) (IsInput x operands s.left) (SpeakSteps val x operands) (hears x operands) r s
+RunsCommand val x operands r s = RunsSteps x (steps_by val x operands) (IsInput x operands s.left)
+    (SpeakSteps val x operands) (hears x operands) r s
 
 -- ---- groups
 
@@ -224,7 +252,8 @@ is_of_operands command = not (is_some (list_in command)) && not (is_some (group_
 
 -- what a command does with its operands
 abbrev pub operands_step_list : Caller → Command → StepLists
-operands_step_list who command = portion_of (action_of who command) (steps_by (val_words_of command) (action_of who command) (operands_of command))
+operands_step_list who command = portion_of (action_of who command) (steps_by (val_words_of command)
+    (action_of who command) (operands_of command))
 
 -- those that the end of a group frees in a folder
 abbrev pub freed_at : Folder → List ℕ → Bool
@@ -234,7 +263,8 @@ freed_at folder = freed_by (freed_in (view_in folder))
 abbrev pub step_list_with : Option GroupUse → Caller → Command → StepLists
 step_list_with None who command = operands_step_list who command
 step_list_with (Some uses.Makes) who command = group_step_list who.stamp
-step_list_with (Some uses.Finishes) who command = λ folder i. follow finishing_step_list (λ code. operands_step_list (freeing who (freed_at folder)) command) folder i
+step_list_with (Some uses.Finishes) who command = λ folder i. follow finishing_step_list (λ code. operands_step_list
+    (freeing who (freed_at folder)) command) folder i
 
 -- what a command does that is no list of commands; a usage fault is said
 abbrev pub command_step_list : Caller → Result Command Usage → StepLists
@@ -243,7 +273,8 @@ command_step_list who (Ok command) = step_list_with (group_use command) who comm
 
 -- a command of a list does what its words mean, with its own stamp and input
 abbrev pub entry_command : Bool → List ℕ → BatchEntry → StepLists
-entry_command quiet place e = λ folder i. command_step_list (caller_by quiet e.stamp place) (meaning e.words) folder e.input
+entry_command quiet place e = λ folder i. command_step_list (caller_by quiet e.stamp place) (meaning e.words) folder
+    e.input
 
 abbrev pub step_list_by : Option CommandList → Caller → Command → StepLists
 step_list_by (Some list.Batch) who command = batch_step_list (entry_command false who.place)
@@ -301,7 +332,8 @@ FitsEntry quiet place e = AsksInput (caller_by quiet e.stamp place) (meaning e.w
 
 -- of a soak nothing is asked
 abbrev pub AsksBy : Option CommandList → Caller → Command → Option (List ℕ) → List ℕ → Type 0
-AsksBy (Some list.Batch) who command left i = IsHeard true left i × AllByRecursion (FitsEntry false who.place) (batch_of (text_of i)).entries
+AsksBy (Some list.Batch) who command left i = IsHeard true left i × AllByRecursion (FitsEntry false who.place)
+    (batch_of (text_of i)).entries
 AsksBy (Some (list.Soak number)) who command left i = Unit {0}
 AsksBy None who command left i = AsksInput who (Ok command) left i
 
@@ -334,17 +366,20 @@ BegunBy None x operands = BegunInTurn (OperandMakes x) (OperandBegins x) operand
 BegunBy (Some words) x operands = NameMakes x (codes "-")
 
 abbrev pub WholeOperands : Caller → Command → ℕ → List NamedStep → Type 0
-WholeOperands who command = WholeBy (action_of who command).rule (MadeBy (val_words_of command) (action_of who command) (operands_of command))
+WholeOperands who command = WholeBy (action_of who command).rule (MadeBy (val_words_of command) (action_of who command)
+    (operands_of command))
 
 abbrev pub BegunOperands : Caller → Command → List NamedStep → Type 0
 BegunOperands who command = BegunBy (val_words_of command) (action_of who command) (operands_of command)
 
 -- the same behind the end of a group, which freed some names
 abbrev pub WholeFreed : Caller → Command → ℕ → List NamedStep → Type 0
-WholeFreed who command status ts = (freed : List ℕ → Bool) × WholeThen WholeFinishing (λ code. WholeOperands (freeing who freed) command) status ts
+WholeFreed who command status ts = (freed : List ℕ → Bool) × WholeThen WholeFinishing
+    (λ code. WholeOperands (freeing who freed) command) status ts
 
 abbrev pub BegunFreed : Caller → Command → List NamedStep → Type 0
-BegunFreed who command ts = (freed : List ℕ → Bool) × BegunThen WholeFinishing BegunFinishing (λ code. BegunOperands (freeing who freed) command) ts
+BegunFreed who command ts = (freed : List ℕ → Bool) × BegunThen WholeFinishing BegunFinishing
+    (λ code. BegunOperands (freeing who freed) command) ts
 
 -- the same with a group
 abbrev pub WholeWith : Option GroupUse → Caller → Command → ℕ → List NamedStep → Type 0
@@ -398,7 +433,8 @@ WholeAsked who (ask.Two first next) = WholeThen (WholeMeant who (Ok first)) (Who
 
 abbrev pub BegunAsked : Caller → Asked → List NamedStep → Type 0
 BegunAsked who (ask.One command) = BegunMeant who (Ok command)
-BegunAsked who (ask.Two first next) = BegunThen (WholeMeant who (Ok first)) (BegunMeant who (Ok first)) (BegunIfFine (BegunMeant who next))
+BegunAsked who (ask.Two first next) = BegunThen (WholeMeant who (Ok first)) (BegunMeant who (Ok first))
+    (BegunIfFine (BegunMeant who next))
 
 abbrev pub WholeWords : Caller → Result Asked Usage → ℕ → List NamedStep → Type 0
 WholeWords who (Err usage) = WholeMeant who (Err usage)
@@ -412,20 +448,24 @@ BegunWords who (Ok asked) = BegunAsked who asked
 
 -- a call that does a command that is no list of commands
 abbrev pub RunsAlone : Caller → Command → Result ℕ Fault → Setting → Setting → Type 0
-RunsAlone who command r s t = RunsStepList (command_step_list who (Ok command)) (AsksInput who (Ok command) s.left) (WholeCommand who (Ok command)) (BegunCommand who (Ok command)) r s t
+RunsAlone who command r s t = RunsStepList (command_step_list who (Ok command)) (AsksInput who (Ok command) s.left)
+    (WholeCommand who (Ok command)) (BegunCommand who (Ok command)) r s t
 
 -- the same of words, or it did nothing for want of memory
 abbrev pub RunsWords : Caller → Result Command Usage → Result ℕ Fault → Setting → Setting → Type 0
 RunsWords who meant r s t =
-    RunsStepList (command_step_list who meant) (AsksInput who meant s.left) (WholeCommand who meant) (BegunCommand who meant) r s t ⊎ ((r ≡ Err ends.Memory) × (t ≡ s))
+    RunsStepList (command_step_list who meant) (AsksInput who meant s.left) (WholeCommand who meant)
+    (BegunCommand who meant) r s t ⊎ ((r ≡ Err ends.Memory) × (t ≡ s))
 
 -- a call that does what words mean
 abbrev pub RunsMeant : Caller → Result Command Usage → Result ℕ Fault → Setting → Setting → Type 0
-RunsMeant who meant r s t = RunsStepList (meant_step_list who meant) (AsksMeant who meant s.left) (WholeMeant who meant) (BegunMeant who meant) r s t
+RunsMeant who meant r s t = RunsStepList (meant_step_list who meant) (AsksMeant who meant s.left) (WholeMeant who meant)
+    (BegunMeant who meant) r s t
 
 -- a call that does what words ask for
 abbrev pub RunsAsked : Caller → Result Asked Usage → Result ℕ Fault → Setting → Setting → Type 0
-RunsAsked who words r s t = RunsStepList (run_step_list who words) (AsksWords who words s.left) (WholeWords who words) (BegunWords who words) r s t
+RunsAsked who words r s t = RunsStepList (run_step_list who words) (AsksWords who words s.left) (WholeWords who words)
+    (BegunWords who words) r s t
 
 -- What a call leaves as it was that makes the steps of operands.
 pub record LeavesOperands (x : Action) (hearing : Bool) (r : Result ℕ Fault) (s t : Setting) : Type 0 where
@@ -436,11 +476,13 @@ pub record LeavesOperands (x : Action) (hearing : Bool) (r : Result ℕ Fault) (
 -- what recovery leaves of a disk, and that it takes no input
 pub record LeavesRecovered (who : Caller) (command : Command) (r : Result ℕ Fault) (s t : Setting) : Type 0 where
   pub recovers : RecoversAll r s.stage.told t.stage.told
-  pub ignores : hears (action_of who command) (operands_of command) ≡ false → Ignores ends.ReadFault s.left t.left s.faults.input t.faults.input r
+  pub ignores : hears (action_of who command) (operands_of command) ≡ false
+      → Ignores ends.ReadFault s.left t.left s.faults.input t.faults.input r
 
 -- of a command that makes a group nothing is said
 abbrev pub LeavesWith : Option GroupUse → Caller → Command → Result ℕ Fault → Setting → Setting → Type 0
-LeavesWith None who command r s t = LeavesOperands (action_of who command) (hears (action_of who command) (operands_of command)) r s t
+LeavesWith None who command r s t = LeavesOperands (action_of who command) (hears (action_of who command)
+    (operands_of command)) r s t
 LeavesWith (Some uses.Makes) who command r s t = Unit {0}
 LeavesWith (Some uses.Finishes) who command r s t = LeavesRecovered who command r s t
 
@@ -473,8 +515,10 @@ EndsRun code w DiskFault m ts a b = ListInterrupted w m ts a b
 -- where the disk tells a folder the steps of these words are made, or the run ends early
 abbrev pub MakesSteps : Caller → Result Asked Usage → Answer → Option (List ℕ) → Scene → Scene → Type 0
 MakesSteps who words answer left a b = (m : Folder) (i : List ℕ)
-    → IsGiven who words left m i → Shows (working who words m i) (seen a.told) (view_in m) → AreKnown a.told m (run_portions who words m i)
-    → EndsRun (run_step_list who words m i).status (working who words m i) answer m (run_steps who words m i) (shown a) (shown b)
+    → IsGiven who words left m i → Shows (working who words m i) (seen a.told) (view_in m)
+    → AreKnown a.told m (run_portions who words m i)
+    → EndsRun (run_step_list who words m i).status (working who words m i) answer m (run_steps who words m i) (shown a)
+    (shown b)
 
 -- the answer as that of steps
 abbrev pub steps_answer : Answer → Result ℕ Fault
@@ -486,9 +530,11 @@ steps_answer DiskFault = Err ends.DiskFault
 
 -- over any disk: some steps that may come explain the status and what is written on err
 abbrev pub SpeaksWords : Caller → Result Asked Usage → Answer → Option (List ℕ) → Option (List ℕ) → Type 0
-SpeaksWords who words answer err err2 = SpeaksTo (WholeWords who words) (BegunWords who words) (steps_answer answer) err err2
+SpeaksWords who words answer err err2 = SpeaksTo (WholeWords who words) (BegunWords who words) (steps_answer answer) err
+    err2
 
--- whether the words change no file, write nothing on out, and take no input; of two commands nothing is said but of the input, which
+-- whether the words change no file, write nothing on out, and take no input; of two commands nothing is said but of the
+-- input, which
 -- the first one alone may take
 abbrev pub asked_reads : Caller → Asked → Bool
 asked_reads who (ask.One command) = is_of_operands command && (action_of who command).reads
@@ -519,7 +565,8 @@ list_takes_input (Some (list.Soak number)) single = false
 list_takes_input None single = single
 
 abbrev pub command_takes_input : Caller → Command → Bool
-command_takes_input who command = list_takes_input (list_in command) (group_takes_input (group_use command) (hears (action_of who command) (operands_of command)))
+command_takes_input who command = list_takes_input (list_in command) (group_takes_input (group_use command)
+    (hears (action_of who command) (operands_of command)))
 
 abbrev pub asked_takes_input : Caller → Asked → Bool
 asked_takes_input who (ask.One command) = command_takes_input who command
@@ -531,25 +578,32 @@ words_take_input who (Ok asked) = asked_takes_input who asked
 
 -- a command that doesn't take the input leaves it
 abbrev pub LeavesInput : Caller → Command → Result ℕ Fault → Setting → Setting → Type 0
-LeavesInput who command r s t = command_takes_input who command ≡ false → Ignores ends.ReadFault s.left t.left s.faults.input t.faults.input r
+LeavesInput who command r s t = command_takes_input who command ≡ false
+    → Ignores ends.ReadFault s.left t.left s.faults.input t.faults.input r
 
 -- so do words
 abbrev pub LeavesAskedInput : Caller → Asked → Result ℕ Fault → Setting → Setting → Type 0
-LeavesAskedInput who asked r s t = asked_takes_input who asked ≡ false → Ignores ends.ReadFault s.left t.left s.faults.input t.faults.input r
+LeavesAskedInput who asked r s t = asked_takes_input who asked ≡ false
+    → Ignores ends.ReadFault s.left t.left s.faults.input t.faults.input r
 
--- What a stop leaves of a run that begins on a calm disk, where the names of its steps are safe: all names as after one number of
+-- What a stop leaves of a run that begins on a calm disk, where the names of its steps are safe: all names as after one
+-- number of
 -- steps, no fewer than those that are acknowledged.
 abbrev pub StopsSteps : Caller → Result Asked Usage → Answer → Option (List ℕ) → Scene → Scene → Type 0
 StopsSteps who words answer left a b = (folder : Folder) (i : List ℕ) (m : Model) (past : List Model)
     → IsGiven who words left folder i → Shows (working who words folder i) (seen a.told) (view_in folder)
     → a.told ≡ Tells m past → MayBegin folder m → AllSafe (view_in folder) (run_portions who words folder i)
-    → StepListCrashPoints (working who words folder i) (steps_answer answer) folder (run_steps who words folder i) a b m past
+    → StepListCrashPoints (working who words folder i) (steps_answer answer) folder (run_steps who words folder i) a b m
+    past
 
--- Before each change of an s-file or p-file its z-file wasn't there at a moment of the run, but of names that are recovered.
+-- Before each change of an s-file or p-file its z-file wasn't there at a moment of the run, but of names that are
+-- recovered.
 abbrev pub UnlockedSteps : Caller → Result Asked Usage → Option (List ℕ) → Told → Told → Type 0
 UnlockedSteps who words left old new = (folder : Folder) (i : List ℕ)
-    → IsGiven who words left folder i → Shows (working who words folder i) (seen old) (view_in folder) → AreKnown old folder (run_portions who words folder i)
-    → (exempt : List ℕ → Bool) → AllPlain (run_portions who words folder i) → AllExempt exempt (run_portions who words folder i) → BeginsUnlockedBut exempt old new
+    → IsGiven who words left folder i → Shows (working who words folder i) (seen old) (view_in folder)
+    → AreKnown old folder (run_portions who words folder i)
+    → (exempt : List ℕ → Bool) → AllPlain (run_portions who words folder i)
+    → AllExempt exempt (run_portions who words folder i) → BeginsUnlockedBut exempt old new
 
 -- whether the words ask for recovery
 abbrev pub is_recovery : Option GroupUse → Bool

@@ -1,7 +1,8 @@
 ghost use Rattle.std.specs.Prelude.{◌≡◌, ◌∷◌, IfOk};
 ghost use Rattle.sccs_words.specs.Meaning.{GivesCommand, meaning};
 ghost use Rattle.sccs_words.specs.ValidValues.{HasValidValues};
-ghost use Rattle.sccs_top.specs.Asked.{GivesAsked, HasValidCommands, as_typed, asked_by, asked_of, one_asked, two_asked, typed_place};
+ghost use Rattle.sccs_top.specs.Asked.{GivesAsked, HasValidCommands, as_typed, asked_by, asked_of, one_asked};
+ghost use Rattle.sccs_top.specs.Asked.{two_asked, typed_place};
 
 use sccs_base::{Memory, Words};
 use sccs_edit::front;
@@ -78,7 +79,8 @@ fn read_alone(alloc: Global, words: &Words, first: &Words) -> Result<Asked, Word
 
 // the two that it makes
 fn read_both(alloc: Global, words: &Words, first: &Words, next: &Words) -> Result<Asked, WordsFault>
-    ensures value { GivesAsked result (two_asked (as_typed words.now first.now (meaning first.now)) (meaning next.now)) }
+    ensures value { GivesAsked result (two_asked (as_typed words.now first.now (meaning first.now))
+        (meaning next.now)) }
     ensures valid { IfOk result HasValidCommands }
 {
     let command = match read_first(alloc, words, first) {

@@ -20,7 +20,11 @@ ghost use Rattle.sccs_rcs.specs.ImportStep.{import_change};
 ghost use Rattle.sccs_top.specs.Asked.{HasValidCommands, asked_of};
 ghost use Rattle.sccs_top.specs.declared.commands.GroupUse.TheVariants as uses;
 ghost use Rattle.sccs_top.specs.declared.asking.Asked.TheVariants as ask;
-ghost use Rattle.sccs_top.specs.Runs.{LeavesAlone, LeavesAsked, LeavesAskedInput, LeavesInput, LeavesMeant, MakesSteps, RecoversRun, RunsAlone, RunsAsked, RunsCommand, RunsMeant, SpeaksWords, StopsSteps, UnlockedSteps, action_of, admin_in, admin_there, caller, caller_by, get_in, group_use, has_heading, hushed, is_silent, list_in, only_reads, operands_of, steps_answer, val_words_of, words_in, words_take_input};
+ghost use Rattle.sccs_top.specs.Runs.{LeavesAlone, LeavesAsked, LeavesAskedInput, LeavesInput, LeavesMeant, MakesSteps};
+ghost use Rattle.sccs_top.specs.Runs.{RecoversRun, RunsAlone, RunsAsked, RunsCommand, RunsMeant, SpeaksWords};
+ghost use Rattle.sccs_top.specs.Runs.{StopsSteps, UnlockedSteps, action_of, admin_in, admin_there, caller, caller_by};
+ghost use Rattle.sccs_top.specs.Runs.{get_in, group_use, has_heading, hushed, is_silent, list_in, only_reads};
+ghost use Rattle.sccs_top.specs.Runs.{operands_of, steps_answer, val_words_of, words_in, words_take_input};
 
 use crate::answers::Answer;
 use crate::asking::{Asked, read_asked};
@@ -123,7 +127,8 @@ fn run_given<U: UtilityWithStatus, I: Source, O: Sink, E: Sink, D: Disk>(
     streams: &mut Streams<I, O, E, D>,
 ) -> Result<u8, Fault>
     ensures loans { SameLoans streams.old streams.new }
-    ensures run { RunsOperands (U.action utility.now) (words_in operands.now) result (setting I.Source O.Sink E.Sink D.Disk streams.old) (setting I.Source O.Sink E.Sink D.Disk streams.new) }
+    ensures run { RunsOperands (U.action utility.now) (words_in operands.now) result
+        (setting I.Source O.Sink E.Sink D.Disk streams.old) (setting I.Source O.Sink E.Sink D.Disk streams.new) }
 {
     if operands.from_input {
         run_operand(alloc, utility, b"-", streams)
@@ -141,7 +146,8 @@ fn run_list<U: UtilityWithStatus, I: Source, O: Sink, E: Sink, D: Disk>(
     streams: &mut Streams<I, O, E, D>,
 ) -> Result<u8, Fault>
     ensures loans { SameLoans streams.old streams.new }
-    ensures run { RunsOperands (hushed None quiet (U.action utility.now)) (words_in operands.now) result (setting I.Source O.Sink E.Sink D.Disk streams.old) (setting I.Source O.Sink E.Sink D.Disk streams.new) }
+    ensures run { RunsOperands (hushed None quiet (U.action utility.now)) (words_in operands.now) result
+        (setting I.Source O.Sink E.Sink D.Disk streams.old) (setting I.Source O.Sink E.Sink D.Disk streams.new) }
 {
     if quiet {
         run_given(alloc, &Dropping { utility }, operands, streams)
@@ -159,7 +165,8 @@ fn run_ordinary<U: Utility + Drop, I: Source, O: Sink, E: Sink, D: Disk>(
     streams: &mut Streams<I, O, E, D>,
 ) -> Result<u8, Fault>
     ensures loans { SameLoans streams.old streams.new }
-    ensures run { RunsOperands (hushed None quiet (ordinary (U.action utility))) (words_in operands.now) result (setting I.Source O.Sink E.Sink D.Disk streams.old) (setting I.Source O.Sink E.Sink D.Disk streams.new) }
+    ensures run { RunsOperands (hushed None quiet (ordinary (U.action utility))) (words_in operands.now) result
+        (setting I.Source O.Sink E.Sink D.Disk streams.old) (setting I.Source O.Sink E.Sink D.Disk streams.new) }
 {
     run_list(alloc, &Ordinary { utility }, operands, quiet, streams)
 }
@@ -173,7 +180,8 @@ fn run_there<I: Source, O: Sink, E: Sink, D: Disk>(
     streams: &mut Streams<I, O, E, D>,
 ) -> Result<u8, Fault>
     ensures loans { SameLoans streams.old streams.new }
-    ensures run { RunsOperands (hushed None quiet (admin_there words.now)) (words_in operands.now) result (setting I.Source O.Sink E.Sink D.Disk streams.old) (setting I.Source O.Sink E.Sink D.Disk streams.new) }
+    ensures run { RunsOperands (hushed None quiet (admin_there words.now)) (words_in operands.now) result
+        (setting I.Source O.Sink E.Sink D.Disk streams.old) (setting I.Source O.Sink E.Sink D.Disk streams.new) }
 {
     if words.check {
         run_ordinary(alloc, Check, operands, quiet, streams)
@@ -195,7 +203,8 @@ fn run_admin<I: Source, O: Sink, E: Sink, D: Disk>(
     requires values { IfSome words.now.release IsComponent }
     requires moment { IsMoment stamp.now.moment }
     ensures loans { SameLoans streams.old streams.new }
-    ensures run { RunsOperands (hushed None quiet (admin_in words.now stamp.now)) (words_in operands.now) result (setting I.Source O.Sink E.Sink D.Disk streams.old) (setting I.Source O.Sink E.Sink D.Disk streams.new) }
+    ensures run { RunsOperands (hushed None quiet (admin_in words.now stamp.now)) (words_in operands.now) result
+        (setting I.Source O.Sink E.Sink D.Disk streams.old) (setting I.Source O.Sink E.Sink D.Disk streams.new) }
 {
     if words.fresh {
         let change = Admin { words, stamp };
@@ -218,7 +227,9 @@ fn run_get<I: Source, O: Sink, E: Sink, D: Disk>(
     requires values { AreGetValues words.now }
     requires moment { IsMoment stamp.now.moment }
     ensures loans { SameLoans streams.old streams.new }
-    ensures run { RunsOperands (hushed None quiet (get_in words.now (caller stamp.now place.now) (has_heading operands.now))) (words_in operands.now) result (setting I.Source O.Sink E.Sink D.Disk streams.old) (setting I.Source O.Sink E.Sink D.Disk streams.new) }
+    ensures run { RunsOperands (hushed None quiet (get_in words.now (caller stamp.now place.now)
+        (has_heading operands.now))) (words_in operands.now) result (setting I.Source O.Sink E.Sink D.Disk streams.old)
+        (setting I.Source O.Sink E.Sink D.Disk streams.new) }
 {
     let heading = has_heading(operands);
     if words.edit {
@@ -251,7 +262,10 @@ fn run_unget<I: Source, O: Sink, E: Sink, D: Disk>(
 ) -> Result<u8, Fault>
     requires moment { IsMoment stamp.now.moment }
     ensures loans { SameLoans streams.old streams.new }
-    ensures run { RunsOperands (hushed None quiet (locking (unget_change words.now stamp.now (has_heading operands.now)))) (words_in operands.now) result (setting I.Source O.Sink E.Sink D.Disk streams.old) (setting I.Source O.Sink E.Sink D.Disk streams.new) }
+    ensures run { RunsOperands
+        (hushed None quiet (locking (unget_change words.now stamp.now (has_heading operands.now))))
+        (words_in operands.now) result (setting I.Source O.Sink E.Sink D.Disk streams.old)
+        (setting I.Source O.Sink E.Sink D.Disk streams.new) }
 {
     let heading = has_heading(operands);
     let change = Unget {
@@ -271,7 +285,8 @@ fn run_pending<I: Source, O: Sink, E: Sink, D: Disk>(
     streams: &mut Streams<I, O, E, D>,
 ) -> Result<u8, Fault>
     ensures loans { SameLoans streams.old streams.new }
-    ensures run { RunsOperands (hushed None quiet (pending_action whole)) (words_in operands.now) result (setting I.Source O.Sink E.Sink D.Disk streams.old) (setting I.Source O.Sink E.Sink D.Disk streams.new) }
+    ensures run { RunsOperands (hushed None quiet (pending_action whole)) (words_in operands.now) result
+        (setting I.Source O.Sink E.Sink D.Disk streams.old) (setting I.Source O.Sink E.Sink D.Disk streams.new) }
 {
     run_list(alloc, &Entries { whole }, operands, quiet, streams)
 }
@@ -284,7 +299,9 @@ fn run_import<I: Source, O: Sink, E: Sink, D: Disk>(
     streams: &mut Streams<I, O, E, D>,
 ) -> Result<u8, Fault>
     ensures loans { SameLoans streams.old streams.new }
-    ensures run { RunsOperands (hushed None quiet (locking (import_change (has_heading operands.now)))) (words_in operands.now) result (setting I.Source O.Sink E.Sink D.Disk streams.old) (setting I.Source O.Sink E.Sink D.Disk streams.new) }
+    ensures run { RunsOperands (hushed None quiet (locking (import_change (has_heading operands.now))))
+        (words_in operands.now) result (setting I.Source O.Sink E.Sink D.Disk streams.old)
+        (setting I.Source O.Sink E.Sink D.Disk streams.new) }
 {
     let heading = has_heading(operands);
     let change = Import { heading };
@@ -302,7 +319,8 @@ fn run_cdc<I: Source, O: Sink, E: Sink, D: Disk>(
 ) -> Result<u8, Fault>
     requires moment { IsMoment stamp.now.moment }
     ensures loans { SameLoans streams.old streams.new }
-    ensures run { RunsOperands (hushed None quiet (locking (cdc_change words.now stamp.now))) (words_in operands.now) result (setting I.Source O.Sink E.Sink D.Disk streams.old) (setting I.Source O.Sink E.Sink D.Disk streams.new) }
+    ensures run { RunsOperands (hushed None quiet (locking (cdc_change words.now stamp.now))) (words_in operands.now)
+        result (setting I.Source O.Sink E.Sink D.Disk streams.old) (setting I.Source O.Sink E.Sink D.Disk streams.new) }
 {
     let change = Cdc { words, stamp };
     run_ordinary(alloc, Locking { change }, operands, quiet, streams)
@@ -319,7 +337,8 @@ fn run_delta<I: Source, O: Sink, E: Sink, D: Disk>(
 ) -> Result<u8, Fault>
     requires moment { IsMoment stamp.now.moment }
     ensures loans { SameLoans streams.old streams.new }
-    ensures run { RunsOperands (hushed None quiet (locking (delta_change words.now stamp.now))) (name.now ∷ []) result (setting I.Source O.Sink E.Sink D.Disk streams.old) (setting I.Source O.Sink E.Sink D.Disk streams.new) }
+    ensures run { RunsOperands (hushed None quiet (locking (delta_change words.now stamp.now))) (name.now ∷ []) result
+        (setting I.Source O.Sink E.Sink D.Disk streams.old) (setting I.Source O.Sink E.Sink D.Disk streams.new) }
 {
     let change = Delta { words, stamp };
     let delta = Ordinary {
@@ -342,7 +361,9 @@ fn run_freed<I: Source, O: Sink, E: Sink, D: Disk>(
 ) -> Result<u8, Fault>
     requires { group_use command.now ≡ Some uses.Finishes }
     ensures loans { SameLoans streams.old streams.new }
-    ensures run { RunsOperands (hushed None quiet (recover_action (freed_by (names_in freed.now)))) (operands_of command.now) result (setting I.Source O.Sink E.Sink D.Disk streams.old) (setting I.Source O.Sink E.Sink D.Disk streams.new) }
+    ensures run { RunsOperands (hushed None quiet (recover_action (freed_by (names_in freed.now))))
+        (operands_of command.now) result (setting I.Source O.Sink E.Sink D.Disk streams.old)
+        (setting I.Source O.Sink E.Sink D.Disk streams.new) }
 {
     match command {
         Command::Recover(operands) => {
@@ -366,7 +387,8 @@ fn run_single<I: Source, O: Sink, E: Sink, D: Disk>(
     requires values { HasValidValues command.now }
     requires moment { IsMoment stamp.now.moment }
     ensures loans { SameLoans streams.old streams.new }
-    ensures run { RunsCommand (val_words_of command.now) (action_of (caller_by quiet stamp.now place.now) command.now) (operands_of command.now) result
+    ensures run { RunsCommand (val_words_of command.now) (action_of (caller_by quiet stamp.now place.now) command.now)
+        (operands_of command.now) result
         (setting I.Source O.Sink E.Sink D.Disk streams.old) (setting I.Source O.Sink E.Sink D.Disk streams.new) }
 {
     match command {
@@ -419,8 +441,10 @@ fn run_lent<I: Source, O: Sink, E: Sink, D: Disk>(
     requires operands { group_use command.now ≡ None }
     requires values { HasValidValues command.now }
     requires moment { IsMoment stamp.now.moment }
-    ensures { RunsCommand (val_words_of command.now) (action_of (caller_by quiet stamp.now place.now) command.now) (operands_of command.now) result
-        (setting_of I.Source O.Sink E.Sink D.Disk input.old out.old err.old disk.old) (setting_of I.Source O.Sink E.Sink D.Disk input.new out.new err.new disk.new) }
+    ensures { RunsCommand (val_words_of command.now) (action_of (caller_by quiet stamp.now place.now) command.now)
+        (operands_of command.now) result
+        (setting_of I.Source O.Sink E.Sink D.Disk input.old out.old err.old disk.old)
+        (setting_of I.Source O.Sink E.Sink D.Disk input.new out.new err.new disk.new) }
 {
     let mut streams = Streams {
         input,
@@ -444,8 +468,10 @@ fn run_finishing<I: Source, O: Sink, E: Sink, D: Disk>(
     requires values { HasValidValues command.now }
     requires moment { IsMoment stamp.now.moment }
     ensures loans { SameLoans streams.old streams.new }
-    ensures run { RunsAlone (caller_by quiet stamp.now place.now) command.now result (setting I.Source O.Sink E.Sink D.Disk streams.old) (setting I.Source O.Sink E.Sink D.Disk streams.new) }
-    ensures leaves { LeavesAlone (caller_by quiet stamp.now place.now) command.now result (setting I.Source O.Sink E.Sink D.Disk streams.old) (setting I.Source O.Sink E.Sink D.Disk streams.new) }
+    ensures run { RunsAlone (caller_by quiet stamp.now place.now) command.now result
+        (setting I.Source O.Sink E.Sink D.Disk streams.old) (setting I.Source O.Sink E.Sink D.Disk streams.new) }
+    ensures leaves { LeavesAlone (caller_by quiet stamp.now place.now) command.now result
+        (setting I.Source O.Sink E.Sink D.Disk streams.old) (setting I.Source O.Sink E.Sink D.Disk streams.new) }
 {
     let mut freed = BTreeSet::new(alloc);
     match finish(alloc, streams, &mut freed) {
@@ -470,9 +496,11 @@ fn run_finishing_lent<I: Source, O: Sink, E: Sink, D: Disk>(
     requires values { HasValidValues command.now }
     requires moment { IsMoment stamp.now.moment }
     ensures run { RunsAlone (caller_by quiet stamp.now place.now) command.now result
-        (setting_of I.Source O.Sink E.Sink D.Disk input.old out.old err.old disk.old) (setting_of I.Source O.Sink E.Sink D.Disk input.new out.new err.new disk.new) }
+        (setting_of I.Source O.Sink E.Sink D.Disk input.old out.old err.old disk.old)
+        (setting_of I.Source O.Sink E.Sink D.Disk input.new out.new err.new disk.new) }
     ensures leaves { LeavesAlone (caller_by quiet stamp.now place.now) command.now result
-        (setting_of I.Source O.Sink E.Sink D.Disk input.old out.old err.old disk.old) (setting_of I.Source O.Sink E.Sink D.Disk input.new out.new err.new disk.new) }
+        (setting_of I.Source O.Sink E.Sink D.Disk input.old out.old err.old disk.old)
+        (setting_of I.Source O.Sink E.Sink D.Disk input.new out.new err.new disk.new) }
 {
     let mut streams = Streams {
         input,
@@ -499,9 +527,11 @@ pub fn run_alone<I: Source, O: Sink, E: Sink, D: Disk>(
     requires values { HasValidValues command.now }
     requires moment { IsMoment stamp.now.moment }
     ensures run { RunsAlone (caller_by quiet stamp.now place.now) command.now result
-        (setting_of I.Source O.Sink E.Sink D.Disk input.old out.old err.old disk.old) (setting_of I.Source O.Sink E.Sink D.Disk input.new out.new err.new disk.new) }
+        (setting_of I.Source O.Sink E.Sink D.Disk input.old out.old err.old disk.old)
+        (setting_of I.Source O.Sink E.Sink D.Disk input.new out.new err.new disk.new) }
     ensures leaves { LeavesAlone (caller_by quiet stamp.now place.now) command.now result
-        (setting_of I.Source O.Sink E.Sink D.Disk input.old out.old err.old disk.old) (setting_of I.Source O.Sink E.Sink D.Disk input.new out.new err.new disk.new) }
+        (setting_of I.Source O.Sink E.Sink D.Disk input.old out.old err.old disk.old)
+        (setting_of I.Source O.Sink E.Sink D.Disk input.new out.new err.new disk.new) }
 {
     match group_use(command) {
         Some(GroupUse::Makes) => run_group(alloc, stamp, input, out, err, disk),
@@ -526,11 +556,14 @@ fn run_meant<I: Source, O: Sink, E: Sink, D: Disk>(
     requires values { HasValidValues command.now }
     requires moment { IsMoment stamp.now.moment }
     ensures run { RunsMeant (caller stamp.now place.now) (Ok command.now) result
-        (setting_of I.Source O.Sink E.Sink D.Disk input.old out.old err.old disk.old) (setting_of I.Source O.Sink E.Sink D.Disk input.new out.new err.new disk.new) }
+        (setting_of I.Source O.Sink E.Sink D.Disk input.old out.old err.old disk.old)
+        (setting_of I.Source O.Sink E.Sink D.Disk input.new out.new err.new disk.new) }
     ensures leaves { LeavesMeant (caller stamp.now place.now) command.now result
-        (setting_of I.Source O.Sink E.Sink D.Disk input.old out.old err.old disk.old) (setting_of I.Source O.Sink E.Sink D.Disk input.new out.new err.new disk.new) }
+        (setting_of I.Source O.Sink E.Sink D.Disk input.old out.old err.old disk.old)
+        (setting_of I.Source O.Sink E.Sink D.Disk input.new out.new err.new disk.new) }
     ensures input { LeavesInput (caller stamp.now place.now) command.now result
-        (setting_of I.Source O.Sink E.Sink D.Disk input.old out.old err.old disk.old) (setting_of I.Source O.Sink E.Sink D.Disk input.new out.new err.new disk.new) }
+        (setting_of I.Source O.Sink E.Sink D.Disk input.old out.old err.old disk.old)
+        (setting_of I.Source O.Sink E.Sink D.Disk input.new out.new err.new disk.new) }
 {
     match list_in(command) {
         Some(CommandList::Batch) => {
@@ -588,9 +621,11 @@ fn run_two<I: Source, O: Sink, E: Sink, D: Disk>(
     requires next { IfOk next.now HasValidValues }
     requires moment { IsMoment stamp.now.moment }
     ensures run { RunsAsked (caller stamp.now place.now) (Ok (ask.Two first.now next.now)) result
-        (setting_of I.Source O.Sink E.Sink D.Disk input.old out.old err.old disk.old) (setting_of I.Source O.Sink E.Sink D.Disk input.new out.new err.new disk.new) }
+        (setting_of I.Source O.Sink E.Sink D.Disk input.old out.old err.old disk.old)
+        (setting_of I.Source O.Sink E.Sink D.Disk input.new out.new err.new disk.new) }
     ensures input { LeavesInput (caller stamp.now place.now) first.now result
-        (setting_of I.Source O.Sink E.Sink D.Disk input.old out.old err.old disk.old) (setting_of I.Source O.Sink E.Sink D.Disk input.new out.new err.new disk.new) }
+        (setting_of I.Source O.Sink E.Sink D.Disk input.old out.old err.old disk.old)
+        (setting_of I.Source O.Sink E.Sink D.Disk input.new out.new err.new disk.new) }
 {
     let status = match run_meant(alloc, first, stamp, place, input, out, err, disk) {
         Ok(status) => status,
@@ -616,11 +651,14 @@ fn run_asked<I: Source, O: Sink, E: Sink, D: Disk>(
     requires values { HasValidCommands asked.now }
     requires moment { IsMoment stamp.now.moment }
     ensures run { RunsAsked (caller stamp.now place.now) (Ok asked.now) result
-        (setting_of I.Source O.Sink E.Sink D.Disk input.old out.old err.old disk.old) (setting_of I.Source O.Sink E.Sink D.Disk input.new out.new err.new disk.new) }
+        (setting_of I.Source O.Sink E.Sink D.Disk input.old out.old err.old disk.old)
+        (setting_of I.Source O.Sink E.Sink D.Disk input.new out.new err.new disk.new) }
     ensures leaves { LeavesAsked (caller stamp.now place.now) asked.now result
-        (setting_of I.Source O.Sink E.Sink D.Disk input.old out.old err.old disk.old) (setting_of I.Source O.Sink E.Sink D.Disk input.new out.new err.new disk.new) }
+        (setting_of I.Source O.Sink E.Sink D.Disk input.old out.old err.old disk.old)
+        (setting_of I.Source O.Sink E.Sink D.Disk input.new out.new err.new disk.new) }
     ensures input { LeavesAskedInput (caller stamp.now place.now) asked.now result
-        (setting_of I.Source O.Sink E.Sink D.Disk input.old out.old err.old disk.old) (setting_of I.Source O.Sink E.Sink D.Disk input.new out.new err.new disk.new) }
+        (setting_of I.Source O.Sink E.Sink D.Disk input.old out.old err.old disk.old)
+        (setting_of I.Source O.Sink E.Sink D.Disk input.new out.new err.new disk.new) }
 {
     match asked {
         Asked::One(command) => run_meant(alloc, command, stamp, place, input, out, err, disk),
@@ -634,7 +672,8 @@ fn run_asked<I: Source, O: Sink, E: Sink, D: Disk>(
 /// 1969 to 2068, and its login, `place` the folder's path. Texts go to `out`, messages to `err`.
 ///
 /// Built are admin, get, delta, sact, tell, check, unget, rmdel, cdc, prs, val, what, recover, import, group, batch and
-/// soak, and the words of the front end, `edit`, `unedit`, `delget` and `deledit`. Of two commands, as those of `delget`, the
+/// soak, and the words of the front end, `edit`, `unedit`, `delget` and `deledit`. Of two commands, as those of
+/// `delget`, the
 /// second is done where the status of the first is 0, without an input, and what is said here of a run holds of both
 /// together; the status is that of the last one done.
 ///
@@ -661,17 +700,25 @@ pub fn run<I: Source, O: Sink, E: Sink, D: Disk>(
 ) -> Answer
     requires moment { IsMoment stamp.now.moment }
     ensures steps { MakesSteps (caller stamp.now place.now) (asked_of words.now) result (I.left input.old)
-        (scene (D.told disk.old) (O.given out.old) (E.given err.old)) (scene (D.told disk.new) (O.given out.new) (E.given err.new)) }
+        (scene (D.told disk.old) (O.given out.old) (E.given err.old)) (scene (D.told disk.new) (O.given out.new)
+        (E.given err.new)) }
     ensures stops { StopsSteps (caller stamp.now place.now) (asked_of words.now) result (I.left input.old)
-        (scene (D.told disk.old) (O.given out.old) (E.given err.old)) (scene (D.told disk.new) (O.given out.new) (E.given err.new)) }
-    ensures unlocked { UnlockedSteps (caller stamp.now place.now) (asked_of words.now) (I.left input.old) (D.told disk.old) (D.told disk.new) }
+        (scene (D.told disk.old) (O.given out.old) (E.given err.old)) (scene (D.told disk.new) (O.given out.new)
+        (E.given err.new)) }
+    ensures unlocked { UnlockedSteps (caller stamp.now place.now) (asked_of words.now) (I.left input.old)
+        (D.told disk.old) (D.told disk.new) }
     ensures recovers { RecoversRun (asked_of words.now) result (D.told disk.old) (D.told disk.new) }
-    ensures speaks { SpeaksWords (caller stamp.now place.now) (asked_of words.now) result (E.given err.old) (E.given err.new) }
-    ensures reads { only_reads (caller stamp.now place.now) (asked_of words.now) ≡ true → D.told disk.new ≡ D.told disk.old }
-    ensures silent { is_silent (caller stamp.now place.now) (asked_of words.now) ≡ true → O.given out.new ≡ O.given out.old }
+    ensures speaks { SpeaksWords (caller stamp.now place.now) (asked_of words.now) result (E.given err.old)
+        (E.given err.new) }
+    ensures reads { only_reads (caller stamp.now place.now) (asked_of words.now) ≡ true
+        → D.told disk.new ≡ D.told disk.old }
+    ensures silent { is_silent (caller stamp.now place.now) (asked_of words.now) ≡ true
+        → O.given out.new ≡ O.given out.old }
     ensures ignores { words_take_input (caller stamp.now place.now) (asked_of words.now) ≡ false
-        → Ignores ends.ReadFault (I.left input.old) (I.left input.new) (I.faults input.old) (I.faults input.new) (steps_answer result) }
-    ensures causes { RunCauses (steps_answer result) (counts (I.faults input.old) (O.faults out.old) (E.faults err.old) (D.faults disk.old))
+        → Ignores ends.ReadFault (I.left input.old) (I.left input.new) (I.faults input.old) (I.faults input.new)
+        (steps_answer result) }
+    ensures causes { RunCauses (steps_answer result) (counts (I.faults input.old) (O.faults out.old) (E.faults err.old)
+        (D.faults disk.old))
         (counts (I.faults input.new) (O.faults out.new) (E.faults err.new) (D.faults disk.new)) }
 {
     match read_asked(alloc, words) {

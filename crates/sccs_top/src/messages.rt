@@ -26,7 +26,8 @@ fn usage_text(kind: u8) -> &'static [u8]
 
 // writes the line of a usage fault
 pub fn write_usage<S: Sink>(usage: &Usage, out: &mut S) -> Result<(), Failed>
-    ensures { GivesText (usage_line usage.now) (S.given out.old) (S.given out.new) (S.faults out.old) (S.faults out.new) result }
+    ensures { GivesText (usage_line usage.now) (S.given out.old) (S.given out.new) (S.faults out.old)
+        (S.faults out.new) result }
 {
     let mut buffer = Buffer::new();
     let word = buffer.format(usage.word).as_bytes();

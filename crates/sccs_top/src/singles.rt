@@ -31,7 +31,8 @@ fn run_words<I: Source, O: Sink, E: Sink, D: Disk>(
     requires moment { IsMoment stamp.now.moment }
     requires single { is_single words.now ≡ true }
     ensures { RunsWords (caller_by quiet stamp.now place.now) (meaning words.now) result
-        (setting_of I.Source O.Sink E.Sink D.Disk input.old out.old err.old disk.old) (setting_of I.Source O.Sink E.Sink D.Disk input.new out.new err.new disk.new) }
+        (setting_of I.Source O.Sink E.Sink D.Disk input.old out.old err.old disk.old)
+        (setting_of I.Source O.Sink E.Sink D.Disk input.new out.new err.new disk.new) }
 {
     match read_words(alloc, words) {
         Ok(command) => run_alone(alloc, &command, stamp, place, quiet, input, out, err, disk),
@@ -60,7 +61,8 @@ impl<'a> Commands for Singles<'a> {
 
     ghost begun = { λ s e. BegunOf s.quiet s.place.now e };
 
-    ghost takes = { λ s e folder i. command_takes (caller_by s.quiet e.stamp s.place.now) (meaning e.words) folder e.input };
+    ghost takes = { λ s e folder i. command_takes (caller_by s.quiet e.stamp s.place.now) (meaning e.words) folder
+        e.input };
 
     ghost might = { λ s e. command_might (caller_by s.quiet e.stamp s.place.now) (meaning e.words) };
 

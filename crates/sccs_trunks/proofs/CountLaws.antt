@@ -1,5 +1,7 @@
 -- The counts of each serial, by the lines of the version before it.
-use Rattle.std.proofs.Common.{◌≡◌, ℕ, zero, suc, ◌+◌, ◌-◌, ◌≤◌, ◌<◌, ◌==◌, ◌⊎◌, Bool, true, false, cond, not, ◌&&◌, ◌||◌, List, [], ◌∷◌, length, replicate, slice_get, Some, inl, inr, refl, sym, ap, ◌∙◌, arith, eq-eqb}
+use Rattle.std.proofs.Common.{◌≡◌, ℕ, zero, suc, ◌+◌, ◌-◌, ◌≤◌, ◌<◌, ◌==◌, ◌⊎◌, Bool, true, false, cond, not, ◌&&◌}
+use Rattle.std.proofs.Common.{◌||◌, List, [], ◌∷◌, length, replicate, slice_get, Some, inl, inr, refl, sym, ap, ◌∙◌}
+use Rattle.std.proofs.Common.{arith, eq-eqb}
 use Rattle.std.specs.List.{AllByRecursion}
 use Rattle.std.proofs.lemmas.Bool.{cases_lt, ne_eqb}
 use Rattle.std.proofs.lemmas.List.Sums.{sum_by-cons}
@@ -36,7 +38,8 @@ inserter_next s i some = by_place (cases_lt i (suc s))
         before : one_if (has (down s) i) ≡ 0
         before = ap one_if (down_lacks s i (omega arith))
 
-        by_high : (suc s < i) ⊎ (i ≤ suc s) → one_if (has (down (suc s)) i) ≡ one_if (has (down s) i) + one_if (i == suc s)
+        by_high : (suc s < i) ⊎ (i ≤ suc s) → one_if (has (down (suc s)) i) ≡ one_if (has (down s) i) + one_if
+            (i == suc s)
         by_high (inl gt) =
             let now : one_if (has (down (suc s)) i) ≡ 0 = ap one_if (down_lacks (suc s) i gt) in
             let other : one_if (i == suc s) ≡ 0 = ap one_if (ne_eqb i (suc s) (λ e. omega (arith, e))) in
@@ -46,7 +49,8 @@ inserter_next s i some = by_place (cases_lt i (suc s))
             let same : one_if (i == suc s) ≡ 1 = ap one_if (eq-eqb i (suc s) (omega arith)) in
             omega (arith, now, before, same)
 
-shown : (set : List ℕ) (i d : ℕ) (t : Bool) → has set d ≡ t → one_if (has set i && not (has set d || false)) ≡ cond t 0 (one_if (has set i))
+shown : (set : List ℕ) (i d : ℕ) (t : Bool) → has set d ≡ t → one_if (has set i && not (has set d || false)) ≡ cond t 0
+    (one_if (has set i))
 shown set i d t is = ap (λ u. one_if (has set i && not (u || false))) is ∙ by_tests t (has set i)
   where
     by_tests : (u v : Bool) → one_if (v && not (u || false)) ≡ cond u 0 (one_if v)
@@ -64,13 +68,18 @@ shown_alone set i = by_test (has set i)
 
 -- by the numbers of a line
 record Numbers (s i : ℕ) (ds : List ℕ) : Type 0 where
-  balance : one_if (has (down (suc s)) i && not (share ds (down (suc s)))) + one_if (has ds (suc s)) ≡ one_if (has (down s) i && not (share ds (down s))) + one_if (i == suc s)
+  balance : one_if (has (down (suc s)) i && not (share ds (down (suc s)))) + one_if (has ds (suc s)) ≡ one_if
+      (has (down s) i && not (share ds (down s))) + one_if (i == suc s)
   within : one_if (i == suc s) ≤ one_if (has (down (suc s)) i && not (share ds (down (suc s))))
 
 open_steps : (s i : ℕ) → 0 < i → Numbers s i []
 open_steps s i some =
     let next = inserter_next s i some in
-    record { balance = omega (arith, next, shown_alone (down (suc s)) i, shown_alone (down s) i); within = omega (arith, next, shown_alone (down (suc s)) i) }
+    record {
+      balance = omega (arith, next, shown_alone (down (suc s)) i, shown_alone (down s) i);
+      within =
+          omega (arith, next, shown_alone (down (suc s)) i);
+    }
 
 deleted_steps : (s i d : ℕ) → 0 < i → i < d → Numbers s i (d ∷ [])
 deleted_steps s i d some above = by_place (cases_lt d (suc s))
@@ -114,10 +123,12 @@ number_steps s i (d ∷ e ∷ ds) some above single = absurd (omega arith)
 -- ---- all lines
 
 record Lengths (s : ℕ) (lines : List HistoryLine) : Type 0 where
-  balance : length (select (down (suc s)) lines) + deleted (suc s) lines ≡ length (select (down s) lines) + inserted (suc s) lines
+  balance : length (select (down (suc s)) lines) + deleted (suc s) lines ≡ length (select (down s) lines) + inserted
+      (suc s) lines
   within : inserted (suc s) lines ≤ length (select (down (suc s)) lines)
 
-length_front : (t : Bool) (text : List ℕ) (texts : List (List ℕ)) → length (front_if t text texts) ≡ one_if t + length texts
+length_front : (t : Bool) (text : List ℕ) (texts : List (List ℕ)) → length (front_if t text texts) ≡ one_if t
+    + length texts
 length_front true text texts = omega arith
 length_front false text texts = omega arith
 
@@ -128,8 +139,10 @@ lengths s (line ∷ lines) order =
     let rest = lengths s lines order.1 in
     let now = length_front (shows (down (suc s)) line) line.text (select (down (suc s)) lines) in
     let before = length_front (shows (down s) line) line.text (select (down s) lines) in
-    let more : inserted (suc s) (line ∷ lines) ≡ one_if (line.inserter == suc s) + inserted (suc s) lines = sum_by-cons (λ l. cond (l.inserter == suc s) 1 0) line lines in
-    let gone : deleted (suc s) (line ∷ lines) ≡ one_if (has line.deleters (suc s)) + deleted (suc s) lines = sum_by-cons (λ l. cond (has l.deleters (suc s)) 1 0) line lines in
+    let more : inserted (suc s) (line ∷ lines) ≡ one_if (line.inserter == suc s) + inserted (suc s) lines =
+    sum_by-cons (λ l. cond (l.inserter == suc s) 1 0) line lines in
+    let gone : deleted (suc s) (line ∷ lines) ≡ one_if (has line.deleters (suc s)) + deleted (suc s) lines =
+    sum_by-cons (λ l. cond (has l.deleters (suc s)) 1 0) line lines in
     record {
       balance = omega (arith, here.balance, rest.balance, now, before, more, gone);
       within = omega (arith, here.within, rest.within, now, more);
@@ -145,10 +158,13 @@ abbrev counts : ℕ → ℕ → ℕ → LineCounts
 counts i d u = record { inserted = i; deleted = d; unchanged = u }
 
 same_counts : (i d u j e v : ℕ) → i ≡ j → d ≡ e → u ≡ v → counts i d u ≡ counts j e v
-same_counts i d u j e v i_is d_is u_is = ap (λ n. counts n d u) i_is ∙ (ap (λ n. counts j n u) d_is ∙ ap (λ n. counts j e n) u_is)
+same_counts i d u j e v i_is d_is u_is = ap (λ n. counts n d u) i_is ∙ (ap (λ n. counts j n u) d_is
+    ∙ ap (λ n. counts j e n) u_is)
 
-counts_rows : (lines : List HistoryLine) → AllByRecursion IsInOrder lines → (s n k before : ℕ) → before ≡ length (select (down s) lines) → k < n
-    → slice_get (counts_from before (with_more (suc s) (tally_of lines) (replicate n no_lines))) k ≡ Some (counts_at (suc (s + k)) lines)
+counts_rows : (lines : List HistoryLine) → AllByRecursion IsInOrder lines → (s n k before : ℕ)
+    → before ≡ length (select (down s) lines) → k < n
+    → slice_get (counts_from before (with_more (suc s) (tally_of lines) (replicate n no_lines))) k ≡ Some
+    (counts_at (suc (s + k)) lines)
 counts_rows lines order s zero k before is lt = absurd (omega arith)
 counts_rows lines order s (suc n) zero before is lt =
     let step = lengths s lines order in
@@ -160,18 +176,21 @@ counts_rows lines order s (suc n) zero before is lt =
     same = omega arith
 counts_rows lines order s (suc n) (suc k) before is lt =
     let step = lengths s lines order in
-    counts_rows lines order (suc s) n k (before - (0 + deleted (suc s) lines) + (0 + inserted (suc s) lines)) (omega (arith, is, step.balance, step.within)) (omega arith)
+    counts_rows lines order (suc s) n k (before - (0 + deleted (suc s) lines) + (0 + inserted (suc s) lines))
+    (omega (arith, is, step.balance, step.within)) (omega arith)
     ∙ ap (λ m. Some (counts_at m lines)) same
   where
     same : suc (suc s + k) ≡ suc (s + suc k)
     same = omega arith
 
-pub counts_are : (lines : List HistoryLine) (serials : ℕ) (tallies : List Tally) (found : List LineCounts) → found ≡ counts_from 0 tallies
+pub counts_are : (lines : List HistoryLine) (serials : ℕ) (tallies : List Tally) (found : List LineCounts)
+    → found ≡ counts_from 0 tallies
     → tallies ≡ with_more 1 (tally_of lines) (replicate serials no_lines)
     → AllByRecursion IsInOrder lines → (n : ℕ) → n < serials → slice_get found n ≡ Some (counts_at (suc n) lines)
 counts_are lines serials tallies found is tallies_are order n lt =
     ap (λ l. slice_get l n) (is ∙ ap (λ l. counts_from 0 l) tallies_are)
-    ∙ (counts_rows lines order 0 serials n 0 (sym (ap length (none_shown lines))) lt ∙ ap (λ m. Some (counts_at m lines)) same)
+    ∙ (counts_rows lines order 0 serials n 0 (sym (ap length (none_shown lines))) lt
+    ∙ ap (λ m. Some (counts_at m lines)) same)
   where
     same : suc (0 + n) ≡ suc n
     same = omega arith
@@ -184,7 +203,8 @@ length_more : (s : ℕ) (more : ℕ → Tally) (n : ℕ) → length (with_more s
 length_more s more zero = refl
 length_more s more (suc n) = ap suc (length_more (suc s) more n)
 
-pub counts_all : (lines : List HistoryLine) (serials : ℕ) (tallies : List Tally) (found : List LineCounts) → found ≡ counts_from 0 tallies
+pub counts_all : (lines : List HistoryLine) (serials : ℕ) (tallies : List Tally) (found : List LineCounts)
+    → found ≡ counts_from 0 tallies
     → tallies ≡ with_more 1 (tally_of lines) (replicate serials no_lines) → length found ≡ serials
 counts_all lines serials tallies found is tallies_are =
     ap length is ∙ (length_counts 0 tallies ∙ (ap length tallies_are ∙ length_more 1 (tally_of lines) serials))
@@ -197,8 +217,17 @@ in_order m i (d ∷ ds) each = (each.0.1, in_order m i ds each.1)
 
 lines_in_order : (m : ℕ) (lines : List HistoryLine) → AllByRecursion (IsFinal m) lines → AllByRecursion IsInOrder lines
 lines_in_order m [] final = tt
-lines_in_order m (line ∷ lines) final =
-    (record { inserter = final.0.some; deleters = in_order m line.inserter line.deleters final.0.deleters; single = final.0.single }, lines_in_order m lines final.1)
+lines_in_order m (line ∷ lines) final = (
+  record {
+    inserter = final.0.some;
+    deleters = in_order m line.inserter line.deleters final.0.deleters;
+    single =
+        final.0.single;
+  },
+  lines_in_order m lines final.1,
+)
 
-pub trunk_in_order : (head : List (List ℕ)) (scripts : List (List Change)) → AllByRecursion IsInOrder (trunk_lines head scripts)
-trunk_in_order head scripts = lines_in_order (suc (length scripts)) (trunk_lines head scripts) (final_trunk head scripts)
+pub trunk_in_order : (head : List (List ℕ)) (scripts : List (List Change)) → AllByRecursion IsInOrder
+    (trunk_lines head scripts)
+trunk_in_order head scripts = lines_in_order (suc (length scripts)) (trunk_lines head scripts)
+    (final_trunk head scripts)

@@ -1,8 +1,10 @@
 -- What is left of a list from a place on.
-use Rattle.std.proofs.Common.{◌≡◌, ℕ, zero, suc, List, [], ◌∷◌, drop, Option, None, Some, slice_get, is_some, refl, sym, ap}
+use Rattle.std.proofs.Common.{◌≡◌, ℕ, zero, suc, List, [], ◌∷◌, drop, Option, None, Some, slice_get, is_some, refl, sym}
+use Rattle.std.proofs.Common.{ap}
 use Rattle.std.proofs.lemmas.Bool.{false≢true}
 
-pub from_place : {A : Type 0} (items : List A) (k : ℕ) (x : A) → slice_get items k ≡ Some x → drop k items ≡ x ∷ drop (suc k) items
+pub from_place : {A : Type 0} (items : List A) (k : ℕ) (x : A) → slice_get items k ≡ Some x → drop k items ≡ x ∷ drop
+    (suc k) items
 from_place [] k x is = absurd (false≢true (ap is_some is))
 from_place {A} (first ∷ items) zero x is = ap (λ o. cons_or o items) is
   where

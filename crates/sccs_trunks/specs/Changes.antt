@@ -1,6 +1,7 @@
 -- The scripts of RCS revisions (rcsfile(5), "deltatext"): the changes that the lines of a script say, and the text that
 -- they make. The lines of a text count from 1.
-use Rattle.std.specs.Prelude.{ℕ, zero, suc, ◌+◌, ◌-◌, ◌^◌, ◌<◌, ◌==◌, nat_le, nat_lt, Bool, false, not, ◌&&◌, ◌||◌, List, [], ◌∷◌, ◌++◌, length, Option, None, Some, Result, Ok, Err, if◌then◌else◌}
+use Rattle.std.specs.Prelude.{ℕ, zero, suc, ◌+◌, ◌-◌, ◌^◌, ◌<◌, ◌==◌, nat_le, nat_lt, Bool, false, not, ◌&&◌, ◌||◌}
+use Rattle.std.specs.Prelude.{List, [], ◌∷◌, ◌++◌, length, Option, None, Some, Result, Ok, Err, if◌then◌else◌}
 use Rattle.sccs_base.specs.Constants.{blank}
 use Rattle.sccs_sid.specs.Reading.{byte_at, number_at, only, whole}
 use Rattle.sccs_sid.specs.SidLists.{begins}
@@ -53,7 +54,8 @@ IsShort (Add line count) = (line < 10 ^ 10) × (count < 10 ^ 10)
 
 -- the command of a letter, `d` or `a`
 abbrev pub command_by : ℕ → ℕ × ℕ → Option ScriptCommand
-command_by b (line, count) = if b == 100 then Some (Delete line count) else if b == 97 then Some (Add line count) else None
+command_by b (line, count) = if b == 100 then Some (Delete line count) else if b == 97 then Some (Add line count)
+    else None
 
 -- the command that a line is
 unfoldable pub command_of : List ℕ → Option ScriptCommand
@@ -98,7 +100,8 @@ abbrev pub or_at : {A : Type 0} → List (List ℕ) → Option A → (A → Resu
 or_at rest None next = Err (suc (length rest))
 or_at rest (Some x) next = next x
 
--- The changes of a script for a text of so many lines, where those up to `last` are behind it and `taken` more lines of the
+-- The changes of a script for a text of so many lines, where those up to `last` are behind it and `taken` more lines of
+-- the
 -- script come after line `last`. Each line must be bare, and where a command must stand a fit command.
 abbrev pub changes_from : ℕ → ℕ → ℕ → List (List ℕ) → Result (List Change) ℕ
 changes_from lines last taken [] = Ok []

@@ -1,5 +1,6 @@
 -- How many lines a script makes of a text.
-use Rattle.std.specs.Prelude.{◌≡◌, ℕ, suc, ◌+◌, ◌-◌, ◌<◌, ◌≤◌, List, [], ◌∷◌, length, Option, None, Some, Result, Ok, Err}
+use Rattle.std.specs.Prelude.{◌≡◌, ℕ, suc, ◌+◌, ◌-◌, ◌<◌, ◌≤◌, List, [], ◌∷◌, length, Option, None, Some, Result, Ok}
+use Rattle.std.specs.Prelude.{Err}
 use Rattle.sccs_trunks.specs.Changes.{Change, Strike, Put, changes_from, changes_of}
 use Rattle.sccs_trunks.specs.declared.revisions.ScriptCommand.{ScriptCommand}
 use Rattle.sccs_trunks.specs.declared.revisions.ScriptCommand.TheVariants.{Delete, Add}
@@ -42,5 +43,7 @@ pub record IsPlace (lines left : ℕ) (place : ScriptPlace) : Type 0 where
 -- what a line says at a place: with it reading goes on from another place, or it is at fault
 abbrev pub ReadsLine : ℕ → ℕ → ScriptPlace → List ℕ → Option ScriptPlace → Type 0
 ReadsLine lines left place line (Some next) =
-    IsPlace lines left next × (next.added + left ≤ place.added + suc left) × ((rest : List (List ℕ)) → length rest ≡ left → read_on lines next rest ≡ read_on lines place (line ∷ rest))
-ReadsLine lines left place line None = (rest : List (List ℕ)) → length rest ≡ left → changes_from lines place.last place.taken (line ∷ rest) ≡ Err (suc left)
+    IsPlace lines left next × (next.added + left ≤ place.added + suc left) × ((rest : List (List ℕ))
+    → length rest ≡ left → read_on lines next rest ≡ read_on lines place (line ∷ rest))
+ReadsLine lines left place line None = (rest : List (List ℕ)) → length rest ≡ left
+    → changes_from lines place.last place.taken (line ∷ rest) ≡ Err (suc left)

@@ -1,5 +1,6 @@
 -- The history of a trunk: a delta for each revision, and the lines of all their texts.
-use Rattle.std.specs.Prelude.{◌≡◌, ℕ, zero, suc, ◌<◌, ◌-◌, min, nat_lt, ◌==◌, Bool, true, false, ◌&&◌, ◌||◌, List, [], ◌∷◌, length, Result, Ok, Err, Option, None, Some, if◌then◌else◌}
+use Rattle.std.specs.Prelude.{◌≡◌, ℕ, zero, suc, ◌<◌, ◌-◌, min, nat_lt, ◌==◌, Bool, true, false, ◌&&◌, ◌||◌, List, []}
+use Rattle.std.specs.Prelude.{◌∷◌, length, Result, Ok, Err, Option, None, Some, if◌then◌else◌}
 use Rattle.std.specs.List.{AllByRecursion}
 use Rattle.sccs_base.specs.Cut.{HasNoLf}
 use Rattle.sccs_base.specs.Login.{IsLogin}
@@ -66,7 +67,8 @@ first_with_soh n (line ∷ lines) = if begins 1 line then Some n else first_with
 
 -- What is said of the scripts of revisions from the n-th on: a fault is the number of the revision and the line of its
 -- text.
-abbrev pub with_changes : ℕ → Result (List Change) ℕ → (List Change → Result (List (List Change)) (ℕ × ℕ)) → Result (List (List Change)) (ℕ × ℕ)
+abbrev pub with_changes : ℕ → Result (List Change) ℕ → (List Change → Result (List (List Change)) (ℕ × ℕ))
+    → Result (List (List Change)) (ℕ × ℕ)
 with_changes n (Ok changes) next = next changes
 with_changes n (Err line) next = Err (n, line)
 
@@ -78,7 +80,8 @@ then_scripts changes (Err fault) = Err fault
 abbrev pub scripts_from : ℕ → List (List ℕ) → List Revision → Result (List (List Change)) (ℕ × ℕ)
 scripts_from n text [] = Ok []
 scripts_from n text (r ∷ revisions) =
-    with_changes n (changes_of (length text) r.text) (λ changes. then_scripts changes (scripts_from (suc n) (revised changes text) revisions))
+    with_changes n (changes_of (length text) r.text) (λ changes. then_scripts changes
+    (scripts_from (suc n) (revised changes text) revisions))
 
 -- the scripts behind a head, whose lines don't begin with SOH
 abbrev pub behind_head : Option ℕ → List (List ℕ) → List Revision → Result (List (List Change)) (ℕ × ℕ)
@@ -108,7 +111,8 @@ text_behind n rcs = revision_text n (head_text rcs.revisions) (scripts_of rcs.re
 
 -- the history that an s-file gets of a trunk
 abbrev pub history_of : Rcs → History
-history_of rcs = trunk_history rcs.revisions rcs.description (trunk_lines (head_text rcs.revisions) (scripts_of rcs.revisions))
+history_of rcs = trunk_history rcs.revisions rcs.description (trunk_lines (head_text rcs.revisions)
+    (scripts_of rcs.revisions))
 
 -- ---- what reading makes sure of
 
@@ -146,7 +150,8 @@ AreFalling (r ∷ revisions) = sids_fall r.sid revisions ≡ true
 
 -- A trunk of 1 to 65,535 revisions, as it is read: their SIDs fall, and all texts and the description can stand in an
 -- s-file.
-pub record IsTrunk (revisions : List Revision) (description head : List (List ℕ)) (scripts : List (List Change)) : Type 0 where
+pub record IsTrunk (revisions : List Revision) (description head : List (List ℕ)) (scripts : List (List Change)) : Type
+    0 where
   pub some : 0 < length revisions
   pub few : length revisions < 65536
   pub scripts_are : length revisions ≡ suc (length scripts)

@@ -1,4 +1,5 @@
--- The items of lines of which each has at most one deleter: each longest run of lines with the same inserter and deleter
+-- The items of lines of which each has at most one deleter: each longest run of lines with the same inserter and
+-- deleter
 -- stands in regions of its own. No deleter is written as 0, and so is no inserter where no line came yet.
 use Rattle.std.specs.Prelude.{ℕ, zero, suc, ◌==◌, Bool, not, ◌&&◌, List, [], ◌∷◌, ◌++◌, if◌then◌else◌}
 use Rattle.sccs_history.specs.Numbers.{first, front_if}

@@ -1,4 +1,5 @@
--- The texts of a trunk's revisions, and the lines of the history that has them all: the head has the greatest serial, the
+-- The texts of a trunk's revisions, and the lines of the history that has them all: the head has the greatest serial,
+-- the
 -- last revision the serial 1. A line whose inserter isn't known yet, since every script so far left it, has the
 -- inserter 0.
 use Rattle.std.specs.Prelude.{ℕ, zero, suc, Bool, true, false, List, [], ◌∷◌, ◌++◌, length, map, if◌then◌else◌}
@@ -32,13 +33,15 @@ earlier_line n text = record { text = text; inserter = 0; deleters = n ∷ [] }
 abbrev pub head_line : List ℕ → HistoryLine
 head_line text = record { text = text; inserter = 0; deleters = [] }
 
--- The lines behind open line k, turned back by the script that leads from the revision of a serial to the one before it:
+-- The lines behind open line k, turned back by the script that leads from the revision of a serial to the one before
+-- it:
 -- the serial inserted the lines that the script deletes, and deleted those that it adds.
 abbrev pub turned_from : ℕ → List Change → ℕ → List HistoryLine → List HistoryLine
 turned_from n changes k [] = []
 turned_from n changes k (line ∷ lines) =
     if is_open line
-    then begun n (strikes changes (suc k)) line ∷ (map (earlier_line n) (added changes (suc k)) ++ turned_from n changes (suc k) lines)
+    then begun n (strikes changes (suc k)) line ∷ (map (earlier_line n) (added changes (suc k)) ++ turned_from n changes
+    (suc k) lines)
     else line ∷ turned_from n changes k lines
 
 abbrev pub turned : ℕ → List Change → List HistoryLine → List HistoryLine

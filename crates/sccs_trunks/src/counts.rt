@@ -1,6 +1,8 @@
-ghost use Rattle.std.specs.Prelude.{◌≡◌, ℕ, ◌<◌, ◌==◌, suc, Some, IfOk, OnOk, length, replicate, slice_get, if◌then◌else◌};
+ghost use Rattle.std.specs.Prelude.{◌≡◌, ℕ, ◌<◌, ◌==◌, suc, Some, IfOk, OnOk, length, replicate, slice_get};
+ghost use Rattle.std.specs.Prelude.{if◌then◌else◌};
 ghost use Rattle.std.specs.List.{AllByRecursion};
-ghost use Rattle.sccs_trunks.specs.Counts.{IsInOrder, both, counted, counts_at, counts_from, no_lines, tally_of, with_more};
+ghost use Rattle.sccs_trunks.specs.Counts.{IsInOrder, both, counted, counts_at, counts_from, no_lines, tally_of};
+ghost use Rattle.sccs_trunks.specs.Counts.{with_more};
 ghost use Rattle.sccs_trunks.specs.Runs.{lines_of, run_lines};
 
 use crate::runs::LineRun;

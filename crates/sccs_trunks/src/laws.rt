@@ -14,14 +14,16 @@ ghost use Rattle.sccs_trunks.specs.declared.revisions.Revision.{Revision};
 pub fn trunk_versions()
     ensures { (revisions : List Revision) (description head : List (List ℕ)) (scripts : List (List Change)) (n : ℕ)
         → length revisions ≡ suc (length scripts) → n ≤ length scripts
-        → version (length revisions - n) (trunk_history revisions description (trunk_lines head scripts)).header.records (trunk_lines head scripts)
+        → version (length revisions - n) (trunk_history revisions description (trunk_lines head scripts)).header.records
+        (trunk_lines head scripts)
         ≡ revision_text n head scripts }
 {}
 
 /// The history of a trunk as it is read is valid and rooted.
 pub fn trunk_histories()
     ensures valid { (revisions : List Revision) (description head : List (List ℕ)) (scripts : List (List Change))
-        → IsTrunk revisions description head scripts → IsValid (trunk_history revisions description (trunk_lines head scripts)) }
+        → IsTrunk revisions description head scripts
+        → IsValid (trunk_history revisions description (trunk_lines head scripts)) }
     ensures rooted { (revisions : List Revision) (description head : List (List ℕ)) (scripts : List (List Change))
         → IsRooted (trunk_history revisions description (trunk_lines head scripts)) }
 {}
@@ -30,15 +32,18 @@ pub fn trunk_histories()
 /// body; and those of a trunk do.
 pub fn trunk_items()
     ensures lines { (live : List ℕ) (lines : List HistoryLine)
-        → AllByRecursion (IsLine live) lines → AllByRecursion (λ line. length line.deleters ≤ 1) lines → AllByRecursion (λ line. 0 < line.inserter) lines
+        → AllByRecursion (IsLine live) lines → AllByRecursion (λ line. length line.deleters ≤ 1) lines
+        → AllByRecursion (λ line. 0 < line.inserter) lines
         → lines_of (items_of lines) ≡ lines }
     ensures rules { (live : List ℕ) (lines : List HistoryLine)
-        → AllByRecursion (IsLine live) lines → AllByRecursion (λ line. length line.deleters ≤ 1) lines → AllByRecursion (λ line. 0 < line.inserter) lines
+        → AllByRecursion (IsLine live) lines → AllByRecursion (λ line. length line.deleters ≤ 1) lines
+        → AllByRecursion (λ line. 0 < line.inserter) lines
         → GoesOn live [] (items_of lines) }
     ensures trunk { (revisions : List Revision) (description head : List (List ℕ)) (scripts : List (List Change))
         → length revisions ≡ suc (length scripts)
         → (lines_of (items_of (trunk_lines head scripts)) ≡ trunk_lines head scripts)
-        × GoesOn (live_serials (trunk_history revisions description (trunk_lines head scripts)).header.records) [] (items_of (trunk_lines head scripts)) }
+        × GoesOn (live_serials (trunk_history revisions description (trunk_lines head scripts)).header.records) []
+        (items_of (trunk_lines head scripts)) }
 {}
 
 /// A script that is fit for a text makes of it as many lines as its changes add, less those that they

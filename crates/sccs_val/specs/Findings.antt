@@ -1,4 +1,5 @@
--- What val finds of an operand: POSIX, Shell and Utilities, val. That each value of -r which is no full SID is an invalid one, and
+-- What val finds of an operand: POSIX, Shell and Utilities, val. That each value of -r which is no full SID is an
+-- invalid one, and
 -- not one that is missing, is our own.
 use Rattle.std.specs.Prelude.{ℕ, ◌+◌, Bool, true, false, not, List, Option, None, Some, Result, Ok, Err, if◌then◌else◌}
 use Rattle.std.specs.Str.{bytes_eq}
@@ -17,7 +18,14 @@ use Rattle.sccs_words.specs.declared.commands.ValWords.{ValWords}
 use Rattle.sccs_val.specs.declared.findings.Findings.{Findings}
 
 abbrev pub fine : Findings
-fine = record { corrupted = false; unopened = false; invalid_sid = false; missing_sid = false; other_kind = false; other_module = false }
+fine = record {
+  corrupted = false;
+  unopened = false;
+  invalid_sid = false;
+  missing_sid = false;
+  other_kind = false;
+  other_module = false;
+}
 
 abbrev pub is_corrupted : Findings
 is_corrupted = record fine { corrupted = true }
@@ -68,7 +76,8 @@ findings_of words n (Err fault) = unread fault
 
 -- what is found of an operand whose file has these bytes
 abbrev pub findings : ValWords → List ℕ → Option (List ℕ) → Findings
-findings words operand bytes = if is_sfile_name operand then findings_of words operand (answer file_of bytes) else is_unopened
+findings words operand bytes = if is_sfile_name operand then findings_of words operand (answer file_of bytes)
+    else is_unopened
 
 -- ---- bits
 
@@ -77,4 +86,5 @@ finding_bit said value = if said then value else 0
 
 -- the bits of POSIX, added up
 abbrev pub bits : Findings → ℕ
-bits f = finding_bit f.corrupted 32 + (finding_bit f.unopened 16 + (finding_bit f.invalid_sid 8 + (finding_bit f.missing_sid 4 + (finding_bit f.other_kind 2 + finding_bit f.other_module 1))))
+bits f = finding_bit f.corrupted 32 + (finding_bit f.unopened 16 + (finding_bit f.invalid_sid 8
+    + (finding_bit f.missing_sid 4 + (finding_bit f.other_kind 2 + finding_bit f.other_module 1))))

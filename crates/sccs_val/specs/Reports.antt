@@ -27,14 +27,16 @@ bit_lines operand f =
     ++ (bit_line operand f.unopened (codes "cannot open file or file not SCCS")
     ++ (bit_line operand f.invalid_sid (codes "SID is invalid or ambiguous")
     ++ (bit_line operand f.missing_sid (codes "SID does not exist")
-    ++ (bit_line operand f.other_kind (codes "%Y%, -y mismatch") ++ bit_line operand f.other_module (codes "%M%, -m mismatch")))))
+    ++ (bit_line operand f.other_kind (codes "%Y%, -y mismatch") ++ bit_line operand f.other_module
+    (codes "%M%, -m mismatch")))))
 
 -- the faults of the words, which are judged once: no operand, and an option that is at fault
 abbrev pub has_bit : ℕ → ℕ → Bool
 has_bit status value = not (bit_and status value == 0)
 
 abbrev pub fault_lines : ℕ → List ℕ
-fault_lines fault = bit_line (codes "val") (has_bit fault 128) (codes "missing file argument") ++ bit_line (codes "val") (has_bit fault 64) (codes "unknown or duplicate option")
+fault_lines fault = bit_line (codes "val") (has_bit fault 128) (codes "missing file argument") ++ bit_line (codes "val")
+    (has_bit fault 64) (codes "unknown or duplicate option")
 
 -- the operands; `-` alone stands for itself, in a line of the input
 abbrev pub operands_in : Operands → List (List ℕ)
@@ -57,7 +59,8 @@ operands_status words v operands = fold (λ status operand. bit_or status (opera
 
 -- of words: where they are at fault, no file is read
 abbrev pub words_text : ValWords → View → List ℕ
-words_text words v = if words.fault == 0 then operands_text words v (operands_in words.operands) else (if words.silent then [] else fault_lines words.fault)
+words_text words v = if words.fault == 0 then operands_text words v (operands_in words.operands)
+    else (if words.silent then [] else fault_lines words.fault)
 
 abbrev pub words_status : ValWords → View → ℕ
 words_status words v = if words.fault == 0 then operands_status words v (operands_in words.operands) else words.fault

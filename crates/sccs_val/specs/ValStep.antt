@@ -1,5 +1,6 @@
 -- What the calls of val answer, and what val does in a folder as one step: POSIX, Shell and Utilities, val.
-use Rattle.std.specs.Prelude.{◌≡◌, ℕ, nat_lt, length, Bool, true, false, ◌&&◌, List, [], ◌∷◌, Option, None, Result, Ok, Err, codes, if◌then◌else◌}
+use Rattle.std.specs.Prelude.{◌≡◌, ℕ, nat_lt, length, Bool, true, false, ◌&&◌, List, [], ◌∷◌, Option, None, Result, Ok}
+use Rattle.std.specs.Prelude.{Err, codes, if◌then◌else◌}
 use Rattle.std.specs.Str.{bytes_eq}
 use Rattle.sccs_base.specs.Constants.{file_limit}
 use Rattle.sccs_base.specs.Stream.{GivesOk, GivesSome}
@@ -95,4 +96,5 @@ val_steps words m input = step_at (val_over words (view_in m)) m input (codes "-
 -- a call that makes it
 abbrev pub RunsVal : ValWords → Result ℕ Fault → Setting → Setting → Type 0
 RunsVal words r s =
-    RunsSteps (val_action words) (val_steps words) (IsHeard (takes_lines words) s.left) (SpeaksOne (val_action words) (codes "-")) (takes_lines words) r s
+    RunsSteps (val_action words) (val_steps words) (IsHeard (takes_lines words) s.left) (SpeaksOne (val_action words)
+    (codes "-")) (takes_lines words) r s

@@ -6,7 +6,8 @@ ghost use Rattle.sccs_sid.specs.Sid.{sid_of};
 ghost use Rattle.sccs_steps.specs.Actions.{RefusesWithin};
 ghost use Rattle.sccs_steps.specs.Causes.{PrintCauses};
 ghost use Rattle.sccs_table.specs.ReaderState.{file_in};
-ghost use Rattle.sccs_val.specs.Findings.{finding_bit, bits, findings, found_in, if_asked, is_invalid, is_missing, is_unopened};
+ghost use Rattle.sccs_val.specs.Findings.{finding_bit, bits, findings, found_in, if_asked, is_invalid, is_missing};
+ghost use Rattle.sccs_val.specs.Findings.{is_unopened};
 ghost use Rattle.sccs_val.specs.ValStep.{Unreads};
 
 use sccs_base::{Bytes, Name};
@@ -145,7 +146,8 @@ pub fn find<D: Disk>(
     operand: &[u8],
     disk: &mut D,
 ) -> Result<Findings, StepFault>
-    ensures told { IfSome (seen (D.told disk.old)) (λ v. IfOk result (λ f. f ≡ findings words.now operand.now (file_in v operand.now))) }
+    ensures told { IfSome (seen (D.told disk.old)) (λ v. IfOk result (λ f. f ≡ findings words.now operand.now
+        (file_in v operand.now))) }
     ensures same { D.told disk.new ≡ D.told disk.old }
     ensures checks { RefusesWithin [] result }
     ensures causes { (out : ℕ) → PrintCauses result out out (D.faults disk.old) (D.faults disk.new) }

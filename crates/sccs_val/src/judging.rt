@@ -5,7 +5,8 @@ ghost use Rattle.sccs_sid.specs.declared.refusals.StepFault.{StepFault};
 ghost use Rattle.sccs_sid.specs.declared.refusals.StepFault.TheVariants as faults;
 ghost use Rattle.sccs_steps.specs.Actions.{RefusesWithin};
 ghost use Rattle.sccs_steps.specs.Causes.{PrintCauses};
-ghost use Rattle.sccs_val.specs.Reports.{fault_lines, operand_status, operand_text, operands_status, operands_text, words_status, words_text};
+ghost use Rattle.sccs_val.specs.Reports.{fault_lines, operand_status, operand_text, operands_status, operands_text};
+ghost use Rattle.sccs_val.specs.Reports.{words_status, words_text};
 
 use crate::findings::find;
 use crate::reports::{add_faults, add_lines};
@@ -23,7 +24,8 @@ fn judge_operand<D: Disk>(
     report: &mut Vec<u8>,
     disk: &mut D,
 ) -> Result<u8, StepFault>
-    ensures told { IfSome (seen (D.told disk.old)) (λ v. IfOk result (λ status. (status ≡ operand_status words.now v operand.now)
+    ensures told { IfSome (seen (D.told disk.old))
+        (λ v. IfOk result (λ status. (status ≡ operand_status words.now v operand.now)
         × (report.new.items ≡ report.old.items ++ operand_text words.now v operand.now))) }
     ensures same { D.told disk.new ≡ D.told disk.old }
     ensures checks { RefusesWithin [] result }
@@ -46,7 +48,8 @@ fn judge_operands<D: Disk>(
     report: &mut Vec<u8>,
     disk: &mut D,
 ) -> Result<u8, StepFault>
-    ensures told { IfSome (seen (D.told disk.old)) (λ v. IfOk result (λ status. (status ≡ operands_status words.now v operands.now)
+    ensures told { IfSome (seen (D.told disk.old))
+        (λ v. IfOk result (λ status. (status ≡ operands_status words.now v operands.now)
         × (report.new.items ≡ report.old.items ++ operands_text words.now v operands.now))) }
     ensures same { D.told disk.new ≡ D.told disk.old }
     ensures checks { RefusesWithin [] result }

@@ -15,7 +15,8 @@ pub fn run_val<I: Source, O: Sink, E: Sink, D: Disk>(
     streams: &mut Streams<I, O, E, D>,
 ) -> Result<u8, Fault>
     ensures loans { SameLoans streams.old streams.new }
-    ensures run { RunsVal words.now result (setting I.Source O.Sink E.Sink D.Disk streams.old) (setting I.Source O.Sink E.Sink D.Disk streams.new) }
+    ensures run { RunsVal words.now result (setting I.Source O.Sink E.Sink D.Disk streams.old)
+        (setting I.Source O.Sink E.Sink D.Disk streams.new) }
 {
     let made = val(alloc, words, streams.input, streams.out, streams.disk);
     conclude(b"-", made, streams.err)

@@ -1,4 +1,5 @@
-ghost use Rattle.std.specs.Prelude.{◌≡◌, ◌<◌, ◌⊎◌, ℕ, false, ◌++◌, [], Err, IfOk, IfSome, OnOk, List, Some, length, nat_lt};
+ghost use Rattle.std.specs.Prelude.{◌≡◌, ◌<◌, ◌⊎◌, ℕ, false, ◌++◌, [], Err, IfOk, IfSome, OnOk, List, Some, length};
+ghost use Rattle.std.specs.Prelude.{nat_lt};
 ghost use Rattle.sccs_base.specs.Constants.{file_limit};
 ghost use Rattle.sccs_base.specs.Cut.{text_of};
 ghost use Rattle.sccs_sid.specs.declared.refusals.Refusal.{Refusal};
@@ -8,7 +9,8 @@ ghost use Rattle.sccs_disk.specs.Files.{View};
 ghost use Rattle.sccs_disk.specs.Told.{seen};
 ghost use Rattle.sccs_steps.specs.Actions.{RefusesWithin};
 ghost use Rattle.sccs_steps.specs.Causes.{Ignores, PrintCauses, StepCauses, counts};
-ghost use Rattle.sccs_val.specs.Reports.{line_heading, line_status, line_text, lines_status, val_lines_text, takes_lines, val_status, val_text, words_status, words_text};
+ghost use Rattle.sccs_val.specs.Reports.{line_heading, line_status, line_text, lines_status, val_lines_text};
+ghost use Rattle.sccs_val.specs.Reports.{takes_lines, val_status, val_text, words_status, words_text};
 ghost use Rattle.sccs_val.specs.ValStep.{Judges, PrintsStatus, is_long};
 
 use crate::judging::judge_words;
@@ -28,7 +30,8 @@ pub fn print_words<O: Sink, D: Disk>(
     out: &mut O,
     disk: &mut D,
 ) -> Result<u8, StepFault>
-    ensures told { IfSome (seen (D.told disk.old)) (λ v. PrintsStatus (words_text words.now v) (words_status words.now v) result (O.given out.old) (O.given out.new)) }
+    ensures told { IfSome (seen (D.told disk.old)) (λ v. PrintsStatus (words_text words.now v)
+        (words_status words.now v) result (O.given out.old) (O.given out.new)) }
     ensures same { D.told disk.new ≡ D.told disk.old }
     ensures checks { RefusesWithin [] result }
     ensures causes { PrintCauses result (O.faults out.old) (O.faults out.new) (D.faults disk.old) (D.faults disk.new) }
@@ -49,7 +52,8 @@ fn give_report<O: Sink>(
     report: &[u8],
     out: &mut O,
 ) -> Result<u8, StepFault>
-    ensures prints { PrintsStatus (line_heading line.now status silent ++ report.now) status result (O.given out.old) (O.given out.new) }
+    ensures prints { PrintsStatus (line_heading line.now status silent ++ report.now) status result (O.given out.old)
+        (O.given out.new) }
     ensures checks { RefusesWithin [] result }
     ensures causes { (disk : ℕ) → PrintCauses result (O.faults out.old) (O.faults out.new) disk disk }
 {
@@ -69,7 +73,9 @@ fn print_under<O: Sink, D: Disk>(
     out: &mut O,
     disk: &mut D,
 ) -> Result<u8, StepFault>
-    ensures told { IfSome (seen (D.told disk.old)) (λ v. PrintsStatus (line_heading line.now (words_status words.now v) words.now.silent ++ words_text words.now v) (words_status words.now v) result (O.given out.old) (O.given out.new)) }
+    ensures told { IfSome (seen (D.told disk.old))
+        (λ v. PrintsStatus (line_heading line.now (words_status words.now v) words.now.silent ++ words_text words.now v)
+        (words_status words.now v) result (O.given out.old) (O.given out.new)) }
     ensures same { D.told disk.new ≡ D.told disk.old }
     ensures checks { RefusesWithin [] result }
     ensures causes { PrintCauses result (O.faults out.old) (O.faults out.new) (D.faults disk.old) (D.faults disk.new) }
@@ -86,7 +92,8 @@ pub fn print_line<O: Sink, D: Disk>(
     out: &mut O,
     disk: &mut D,
 ) -> Result<u8, StepFault>
-    ensures told { IfSome (seen (D.told disk.old)) (λ v. PrintsStatus (line_text v line.now) (line_status v line.now) result (O.given out.old) (O.given out.new)) }
+    ensures told { IfSome (seen (D.told disk.old)) (λ v. PrintsStatus (line_text v line.now) (line_status v line.now)
+        result (O.given out.old) (O.given out.new)) }
     ensures same { D.told disk.new ≡ D.told disk.old }
     ensures checks { RefusesWithin [] result }
     ensures causes { PrintCauses result (O.faults out.old) (O.faults out.new) (D.faults disk.old) (D.faults disk.new) }
@@ -104,7 +111,8 @@ pub fn print_lines<O: Sink, D: Disk>(
     out: &mut O,
     disk: &mut D,
 ) -> Result<u8, StepFault>
-    ensures told { IfSome (seen (D.told disk.old)) (λ v. PrintsStatus (val_lines_text v lines.now) (lines_status v lines.now) result (O.given out.old) (O.given out.new)) }
+    ensures told { IfSome (seen (D.told disk.old)) (λ v. PrintsStatus (val_lines_text v lines.now)
+        (lines_status v lines.now) result (O.given out.old) (O.given out.new)) }
     ensures same { D.told disk.new ≡ D.told disk.old }
     ensures checks { RefusesWithin [] result }
     ensures causes { PrintCauses result (O.faults out.old) (O.faults out.new) (D.faults disk.old) (D.faults disk.new) }
@@ -127,10 +135,13 @@ pub fn print_input<I: Source, O: Sink, D: Disk>(
     disk: &mut D,
 ) -> Result<u8, StepFault>
     ensures told { IfSome (seen (D.told disk.old)) (λ v. (i : List ℕ) → I.left input.old ≡ Some i
-        → Judges (nat_lt file_limit (length i)) (val_lines_text v (text_of i)) (lines_status v (text_of i)) result (O.given out.old) (O.given out.new)) }
-    ensures long { (refusal : Refusal) → result ≡ Err (faults.Refused refusal) → (refusal ≡ refusals.TooLong) × IfSome (I.left input.old) (λ i. file_limit < length i) }
+        → Judges (nat_lt file_limit (length i)) (val_lines_text v (text_of i)) (lines_status v (text_of i)) result
+        (O.given out.old) (O.given out.new)) }
+    ensures long { (refusal : Refusal) → result ≡ Err (faults.Refused refusal) → (refusal ≡ refusals.TooLong)
+        × IfSome (I.left input.old) (λ i. file_limit < length i) }
     ensures same { D.told disk.new ≡ D.told disk.old }
-    ensures causes { (err : ℕ) → StepCauses result (counts (I.faults input.old) (O.faults out.old) err (D.faults disk.old)) (counts (I.faults input.new) (O.faults out.new) err (D.faults disk.new)) }
+    ensures causes { (err : ℕ) → StepCauses result (counts (I.faults input.old) (O.faults out.old) err
+        (D.faults disk.old)) (counts (I.faults input.new) (O.faults out.new) err (D.faults disk.new)) }
 {
     match read_names(alloc, input, FILE_LIMIT) {
         Ok(lines) => print_lines(alloc, lines.items(), out, disk),
@@ -156,13 +167,18 @@ pub fn val<I: Source, O: Sink, D: Disk>(
     out: &mut O,
     disk: &mut D,
 ) -> Result<u8, StepFault>
-    ensures told { IfSome (seen (D.told disk.old)) (λ v. (i : List ℕ) → (takes_lines words.now ≡ false) ⊎ (I.left input.old ≡ Some i)
-        → Judges (is_long words.now i) (val_text words.now v i) (val_status words.now v i) result (O.given out.old) (O.given out.new)) }
-    ensures long { (refusal : Refusal) → result ≡ Err (faults.Refused refusal) → (refusal ≡ refusals.TooLong) × IfSome (I.left input.old) (λ i. file_limit < length i) }
+    ensures told { IfSome (seen (D.told disk.old)) (λ v. (i : List ℕ) → (takes_lines words.now ≡ false)
+        ⊎ (I.left input.old ≡ Some i)
+        → Judges (is_long words.now i) (val_text words.now v i) (val_status words.now v i) result (O.given out.old)
+        (O.given out.new)) }
+    ensures long { (refusal : Refusal) → result ≡ Err (faults.Refused refusal) → (refusal ≡ refusals.TooLong)
+        × IfSome (I.left input.old) (λ i. file_limit < length i) }
     ensures same { D.told disk.new ≡ D.told disk.old }
     ensures ignores { takes_lines words.now ≡ false
-        → Ignores faults.ReadFault (I.left input.old) (I.left input.new) (I.faults input.old) (I.faults input.new) result }
-    ensures causes { (err : ℕ) → StepCauses result (counts (I.faults input.old) (O.faults out.old) err (D.faults disk.old)) (counts (I.faults input.new) (O.faults out.new) err (D.faults disk.new)) }
+        → Ignores faults.ReadFault (I.left input.old) (I.left input.new) (I.faults input.old) (I.faults input.new)
+        result }
+    ensures causes { (err : ℕ) → StepCauses result (counts (I.faults input.old) (O.faults out.old) err
+        (D.faults disk.old)) (counts (I.faults input.new) (O.faults out.new) err (D.faults disk.new)) }
 {
     if takes_lines(words) {
         return print_input(alloc, input, out, disk);

@@ -1,5 +1,6 @@
 -- How the open regions go on with an item.
-use Rattle.std.proofs.Common.{◌≡◌, ℕ, suc, ◌+◌, ◌==◌, ◌<◌, ◌≤◌, nat_lt, Bool, true, false, cond, List, [], ◌∷◌, Option, None, Some, refl, sym, subst, ap, ◌∙◌, arith}
+use Rattle.std.proofs.Common.{◌≡◌, ℕ, suc, ◌+◌, ◌==◌, ◌<◌, ◌≤◌, nat_lt, Bool, true, false, cond, List, [], ◌∷◌, Option}
+use Rattle.std.proofs.Common.{None, Some, refl, sym, subst, ap, ◌∙◌, arith}
 use Rattle.std.specs.List.{AllByRecursion}
 use Rattle.std.proofs.lemmas.Bool.{eqb-true, ne_eqb, eqb-false, ltb-true, ltb-false}
 use Rattle.sccs_history.specs.Numbers.{has, Falls}
@@ -7,7 +8,8 @@ use Rattle.sccs_history.specs.Body.{Mark, Closed, ByInsert, ByDelete}
 use Rattle.sccs_history.specs.declared.headers.Item.{Item}
 use Rattle.sccs_history.specs.declared.headers.Item.TheVariants.{Text, Insert, Delete, End}
 use Rattle.sccs_history.proofs.Falling.{Falls-wider, IsFalling-from_Falls}
-use Rattle.sccs_versions.specs.Regions.{AreSorted, regions_after, behind_one, serial_mark, Holds, region_mark, OpensRegions, replaced_region, region_serials}
+use Rattle.sccs_versions.specs.Regions.{AreSorted, regions_after, behind_one, serial_mark, Holds, region_mark}
+use Rattle.sccs_versions.specs.Regions.{OpensRegions, replaced_region, region_serials}
 use Rattle.sccs_versions.specs.declared.regions.Region.{Region}
 
 -- a bound of a sorted list
@@ -38,7 +40,8 @@ found_past b n (r ∷ rs) falls le =
 
 -- What is put in the place of a serial's region: the serial then stands so.
 record Fits (n : ℕ) (new : Option Region) (k : Mark) : Type 0 where
-  stands : (m : ℕ) (xs : List Region) → Falls n (region_serials xs) → serial_mark m (behind_one new xs) ≡ cond (n == m) k (serial_mark m xs)
+  stands : (m : ℕ) (xs : List Region) → Falls n (region_serials xs) → serial_mark m (behind_one new xs) ≡ cond
+      (n == m) k (serial_mark m xs)
   low : (b : ℕ) (xs : List Region) → n < b → Falls n (region_serials xs) → Falls b (region_serials (behind_one new xs))
 
 fits_one : (q : Region) → Fits q.serial (Some q) (region_mark q)
@@ -49,33 +52,40 @@ fits_one q = record {
 
 fits_none : (n : ℕ) → Fits n None Closed
 fits_none n = record {
-  stands = λ m xs falls. closed_or (n == m) (serial_mark m xs) (λ e. let same : n ≡ m = eqb-true n m e in found_past n m xs falls (omega arith));
+  stands = λ m xs falls. closed_or (n == m) (serial_mark m xs) (λ e. let same : n ≡ m = eqb-true n m e in
+      found_past n m xs falls (omega arith));
   low = λ b xs lt falls. Falls-wider n b (region_serials xs) (omega arith) falls;
 }
 
 module _ (n : ℕ) (new : Option Region) (k : Mark) (fits : Fits n new k) where
-  found_step : (m b : ℕ) (r : Region) (rs : List Region) (t s : Bool) → nat_lt n r.serial ≡ t → (r.serial == n) ≡ s → Falls b (region_serials (r ∷ rs))
+  found_step : (m b : ℕ) (r : Region) (rs : List Region) (t s : Bool) → nat_lt n r.serial ≡ t → (r.serial == n) ≡ s
+      → Falls b (region_serials (r ∷ rs))
       → serial_mark m (replaced_region n new rs) ≡ cond (n == m) k (serial_mark m rs)
-      → serial_mark m (cond t (r ∷ replaced_region n new rs) (behind_one new (cond s rs (r ∷ rs)))) ≡ cond (n == m) k (serial_mark m (r ∷ rs))
+      → serial_mark m (cond t (r ∷ replaced_region n new rs) (behind_one new (cond s rs (r ∷ rs)))) ≡ cond (n == m) k
+      (serial_mark m (r ∷ rs))
   found_step m b r rs true s greater same falls ih =
       let above : n < r.serial = ltb-true n r.serial greater in
       ap (λ rest. cond (r.serial == m) (region_mark r) rest) ih
-      ∙ swapped (r.serial == m) (n == m) k (region_mark r) (serial_mark m rs) (λ one two. omega (arith, eqb-true r.serial m one, eqb-true n m two))
+      ∙ swapped (r.serial == m) (n == m) k (region_mark r) (serial_mark m rs)
+      (λ one two. omega (arith, eqb-true r.serial m one, eqb-true n m two))
   found_step m b r rs false true greater same falls ih =
       let here : r.serial ≡ n = eqb-true r.serial n same in
       fits.stands m rs (subst (λ i. Falls i (region_serials rs)) here falls.1)
-      ∙ (same_twice (n == m) k (region_mark r) (serial_mark m rs) ∙ ap (λ i. cond (n == m) k (cond (i == m) (region_mark r) (serial_mark m rs))) (sym here))
+      ∙ (same_twice (n == m) k (region_mark r) (serial_mark m rs)
+      ∙ ap (λ i. cond (n == m) k (cond (i == m) (region_mark r) (serial_mark m rs))) (sym here))
   found_step m b r rs false false greater same falls ih =
       let other : r.serial ≡ n → ⊥ = eqb-false r.serial n same in
       let le : r.serial ≤ n = ltb-false n r.serial greater in
       fits.stands m (r ∷ rs) (omega arith, falls.1)
 
-  found_replaced : (m b : ℕ) (rs : List Region) → Falls b (region_serials rs) → serial_mark m (replaced_region n new rs) ≡ cond (n == m) k (serial_mark m rs)
+  found_replaced : (m b : ℕ) (rs : List Region) → Falls b (region_serials rs) → serial_mark m (replaced_region n new rs)
+      ≡ cond (n == m) k (serial_mark m rs)
   found_replaced m b [] falls = fits.stands m [] tt
   found_replaced m b (r ∷ rs) falls =
       found_step m b r rs (nat_lt n r.serial) (r.serial == n) refl refl falls (found_replaced m r.serial rs falls.1)
 
-  falls_step : (b : ℕ) (r : Region) (rs : List Region) (t s : Bool) → nat_lt n r.serial ≡ t → (r.serial == n) ≡ s → n < b → Falls b (region_serials (r ∷ rs))
+  falls_step : (b : ℕ) (r : Region) (rs : List Region) (t s : Bool) → nat_lt n r.serial ≡ t → (r.serial == n) ≡ s
+      → n < b → Falls b (region_serials (r ∷ rs))
       → (n < r.serial → Falls r.serial (region_serials (replaced_region n new rs)))
       → Falls b (region_serials (cond t (r ∷ replaced_region n new rs) (behind_one new (cond s rs (r ∷ rs)))))
   falls_step b r rs true s greater same lt falls ih = (falls.0, ih (ltb-true n r.serial greater))
@@ -86,22 +96,28 @@ module _ (n : ℕ) (new : Option Region) (k : Mark) (fits : Fits n new k) where
       let le : r.serial ≤ n = ltb-false n r.serial greater in
       fits.low b (r ∷ rs) lt (omega arith, falls.1)
 
-  falls_replaced : (b : ℕ) (rs : List Region) → n < b → Falls b (region_serials rs) → Falls b (region_serials (replaced_region n new rs))
+  falls_replaced : (b : ℕ) (rs : List Region) → n < b → Falls b (region_serials rs)
+      → Falls b (region_serials (replaced_region n new rs))
   falls_replaced b [] lt falls = fits.low b [] lt tt
   falls_replaced b (r ∷ rs) lt falls =
-      falls_step b r rs (nat_lt n r.serial) (r.serial == n) refl refl lt falls (λ above. falls_replaced r.serial rs above falls.1)
+      falls_step b r rs (nat_lt n r.serial) (r.serial == n) refl refl lt falls
+      (λ above. falls_replaced r.serial rs above falls.1)
 
-  stands_replaced : (m : ℕ) (rs : List Region) → AreSorted rs → serial_mark m (replaced_region n new rs) ≡ cond (n == m) k (serial_mark m rs)
+  stands_replaced : (m : ℕ) (rs : List Region) → AreSorted rs → serial_mark m (replaced_region n new rs) ≡ cond
+      (n == m) k (serial_mark m rs)
   stands_replaced m rs sorted = let falls = sorted_falls rs sorted in found_replaced m falls.0 rs falls.1
 
   sorted_replaced : (rs : List Region) → AreSorted rs → AreSorted (replaced_region n new rs)
   sorted_replaced rs sorted =
       let falls = sorted_falls rs sorted in
       IsFalling-from_Falls (suc n + falls.0) (region_serials (replaced_region n new rs))
-      (falls_replaced (suc n + falls.0) rs (omega arith) (Falls-wider falls.0 (suc n + falls.0) (region_serials rs) (omega arith) falls.1))
+      (falls_replaced (suc n + falls.0) rs (omega arith) (Falls-wider falls.0 (suc n + falls.0) (region_serials rs)
+      (omega arith) falls.1))
 
-module _ (P : Region → Type 0) (n : ℕ) (new : Option Region) (fits : (xs : List Region) → AllByRecursion P xs → AllByRecursion P (behind_one new xs)) where
-  all_step : (r : Region) (rs : List Region) (t s : Bool) → P r → AllByRecursion P rs → AllByRecursion P (replaced_region n new rs)
+module _ (P : Region → Type 0) (n : ℕ) (new : Option Region) (fits : (xs : List Region) → AllByRecursion P xs
+    → AllByRecursion P (behind_one new xs)) where
+  all_step : (r : Region) (rs : List Region) (t s : Bool) → P r → AllByRecursion P rs
+      → AllByRecursion P (replaced_region n new rs)
       → AllByRecursion P (cond t (r ∷ replaced_region n new rs) (behind_one new (cond s rs (r ∷ rs))))
   all_step r rs true s here each ih = (here, ih)
   all_step r rs false true here each ih = fits rs each
@@ -118,16 +134,21 @@ module _ (set : List ℕ) where
 
   pub sorted-behind : (item : Item) (rs : List Region) → AreSorted rs → AreSorted (regions_after set item rs)
   sorted-behind (Text text) rs sorted = sorted
-  sorted-behind (Insert n) rs sorted = sorted_replaced n (Some (region n true)) ByInsert (fits_one (region n true)) rs sorted
-  sorted-behind (Delete n) rs sorted = sorted_replaced n (Some (region n false)) ByDelete (fits_one (region n false)) rs sorted
+  sorted-behind (Insert n) rs sorted = sorted_replaced n (Some (region n true)) ByInsert (fits_one (region n true)) rs
+      sorted
+  sorted-behind (Delete n) rs sorted = sorted_replaced n (Some (region n false)) ByDelete (fits_one (region n false)) rs
+      sorted
   sorted-behind (End n) rs sorted = sorted_replaced n None Closed (fits_none n) rs sorted
 
-  pub opens-behind : (item : Item) (before : List Item) (rs : List Region) → AreSorted rs → OpensRegions before rs → OpensRegions (item ∷ before) (regions_after set item rs)
+  pub opens-behind : (item : Item) (before : List Item) (rs : List Region) → AreSorted rs → OpensRegions before rs
+      → OpensRegions (item ∷ before) (regions_after set item rs)
   opens-behind (Text text) before rs sorted opens = opens
   opens-behind (Insert m) before rs sorted opens = λ n.
-      stands_replaced m (Some (region m true)) ByInsert (fits_one (region m true)) n rs sorted ∙ ap (λ k. cond (m == n) ByInsert k) (opens n)
+      stands_replaced m (Some (region m true)) ByInsert (fits_one (region m true)) n rs sorted
+      ∙ ap (λ k. cond (m == n) ByInsert k) (opens n)
   opens-behind (Delete m) before rs sorted opens = λ n.
-      stands_replaced m (Some (region m false)) ByDelete (fits_one (region m false)) n rs sorted ∙ ap (λ k. cond (m == n) ByDelete k) (opens n)
+      stands_replaced m (Some (region m false)) ByDelete (fits_one (region m false)) n rs sorted
+      ∙ ap (λ k. cond (m == n) ByDelete k) (opens n)
   opens-behind (End m) before rs sorted opens = λ n.
       stands_replaced m None Closed (fits_none m) n rs sorted ∙ ap (λ k. cond (m == n) Closed k) (opens n)
 
@@ -143,7 +164,8 @@ module _ (set : List ℕ) where
       all_replaced (λ r. r.applied ≡ has set r.serial) n (Some (region n false)) (λ xs all. (refl, all)) rs each
   tell-behind (End n) rs each = all_replaced (λ r. r.applied ≡ has set r.serial) n None (λ xs all. all) rs each
 
-  pub holds-behind : (item : Item) (before : List Item) (rs : List Region) → AreSorted rs → Holds set before rs → Holds set (item ∷ before) (regions_after set item rs)
+  pub holds-behind : (item : Item) (before : List Item) (rs : List Region) → AreSorted rs → Holds set before rs
+      → Holds set (item ∷ before) (regions_after set item rs)
   holds-behind item before rs sorted holds =
       record {
         opens = opens-behind item before rs sorted holds.opens;

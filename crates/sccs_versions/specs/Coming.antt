@@ -72,8 +72,10 @@ GivesNextLine file r lines (Err _) = ⊥
 
 -- what the next item shows of itself, where the regions were those behind other items
 abbrev pub ShowsItem : List ℕ → List Item → Item → List Region → Result Next FileFault → Type 0
-ShowsItem set before item regions (Ok (Line text)) = Holds set (item ∷ before) regions × (item ≡ Text text) × (shows set (line_at before text) ≡ true)
-ShowsItem set before item regions (Ok Hidden) = Holds set (item ∷ before) regions × (shown set (lines_behind before (item ∷ [])) ≡ [])
+ShowsItem set before item regions (Ok (Line text)) = Holds set (item ∷ before) regions × (item ≡ Text text)
+    × (shows set (line_at before text) ≡ true)
+ShowsItem set before item regions (Ok Hidden) = Holds set (item ∷ before) regions
+    × (shown set (lines_behind before (item ∷ [])) ≡ [])
 ShowsItem set before item regions (Ok End) = ⊥
 ShowsItem set before item regions (Err Memory) = Unit {0}
 ShowsItem set before item regions (Err _) = ⊥

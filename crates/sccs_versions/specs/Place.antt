@@ -29,7 +29,8 @@ bytes_held r count = items_at_hand r.items count
 -- So many bytes that were read are whole lines that may stand and that the set shows.
 pub record AreShown (r : VersionPlace) (count : ℕ) : Type 0 where
   pub may : MayPass r.items count
-  pub kept : ((set : List ℕ) (before : List Item) (text : List ℕ) → Holds set before r.regions → shows set (line_at before text) ≡ true) ⊎ (count ≡ 0)
+  pub kept : ((set : List ℕ) (before : List Item) (text : List ℕ) → Holds set before r.regions
+      → shows set (line_at before text) ≡ true) ⊎ (count ≡ 0)
 
 -- a line behind these items was inserted by this serial
 abbrev pub IsInserter : List Region → ℕ → Type 0

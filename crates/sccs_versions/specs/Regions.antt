@@ -1,5 +1,6 @@
 -- The regions that are open at a place of a body, the greatest serial first.
-use Rattle.std.specs.Prelude.{◌≡◌, ℕ, nat_lt, ◌==◌, Bool, true, false, not, ◌&&◌, List, [], ◌∷◌, map, Option, None, Some, if◌then◌else◌}
+use Rattle.std.specs.Prelude.{◌≡◌, ℕ, nat_lt, ◌==◌, Bool, true, false, not, ◌&&◌, List, [], ◌∷◌, map, Option, None}
+use Rattle.std.specs.Prelude.{Some, if◌then◌else◌}
 use Rattle.std.specs.List.{AllByRecursion}
 use Rattle.sccs_history.specs.Numbers.{has, IsFalling}
 use Rattle.sccs_history.specs.Body.{Mark, Closed, ByInsert, ByDelete, mark}
@@ -32,7 +33,8 @@ behind_one (Some q) regions = q ∷ regions
 -- the regions with another one, or none, in the place of that of a serial
 abbrev pub replaced_region : ℕ → Option Region → List Region → List Region
 replaced_region n new [] = behind_one new []
-replaced_region n new (r ∷ rs) = if nat_lt n r.serial then r ∷ replaced_region n new rs else behind_one new (if r.serial == n then rs else r ∷ rs)
+replaced_region n new (r ∷ rs) = if nat_lt n r.serial then r ∷ replaced_region n new rs
+    else behind_one new (if r.serial == n then rs else r ∷ rs)
 
 -- the regions with one more, in the place of an open one of its serial
 abbrev pub with_region : Region → List Region → List Region

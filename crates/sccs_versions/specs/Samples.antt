@@ -5,7 +5,8 @@ use Rattle.sccs_history.specs.declared.headers.Record.{Record}
 
 -- a delta of the trunk by nobody
 abbrev pub plain_record : ℕ → ℕ → Record
-plain_record serial predecessor = record (sample_delta serial predecessor (trunk 1 serial) (pos 0)) { login = codes "nobody" }
+plain_record serial predecessor = record (sample_delta serial predecessor (trunk 1 serial)
+    (pos 0)) { login = codes "nobody" }
 
 -- 1.1, and 1.3 and 1.5 on it
 abbrev pub crossing_table : List Record

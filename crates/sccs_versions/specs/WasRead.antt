@@ -36,8 +36,10 @@ pub record HasRead (live : List ℕ) (r : VersionPlace) (before : List Item) : T
   pub behind : IsBehind live before r.items
   pub holds : Holds r.set before r.regions
 
--- The reader went on behind more items, of which lines with these texts were shown; the delta of the regions inserted them.
-pub record ReadsOn (live : List ℕ) (r : VersionPlace) (regions : List Region) (before : List Item) (texts : List (List ℕ)) : Type 0 where
+-- The reader went on behind more items, of which lines with these texts were shown; the delta of the regions inserted
+-- them.
+pub record ReadsOn (live : List ℕ) (r : VersionPlace) (regions : List Region) (before : List Item)
+    (texts : List (List ℕ)) : Type 0 where
   pub items : List Item
   pub read : HasRead live r items
   pub first : List HistoryLine

@@ -1,4 +1,5 @@
-ghost use Rattle.std.specs.Prelude.{◌≡◌, ◌≢◌, ◌++◌, [], false, ◌<◌, ◌≤◌, ℕ, List, Option, length, take, Some, Ok, Err, IfOk, IsTrue};
+ghost use Rattle.std.specs.Prelude.{◌≡◌, ◌≢◌, ◌++◌, [], false, ◌<◌, ◌≤◌, ℕ, List, Option, length, take, Some, Ok, Err};
+ghost use Rattle.std.specs.Prelude.{IfOk, IsTrue};
 ghost use Rattle.sccs_base.specs.Cut.{cut};
 ghost use Rattle.sccs_disk.specs.Told.{seen};
 ghost use Rattle.sccs_grammar.specs.declared.faults.FileFault.TheVariants as faults;
@@ -60,7 +61,8 @@ impl<'a> Model for VersionReader<'a> {
 // what an item shows of itself; the weaver then stands behind it
 #[inline(always)]
 fn show_item(weaver: &mut Weaver, set: &Applied, item: Item) -> Result<Next, FileFault>
-    ensures shows { (before : List Item) → Holds set.now before weaver.old → ShowsItem set.now before item weaver.new result }
+    ensures shows { (before : List Item) → Holds set.now before weaver.old
+        → ShowsItem set.now before item weaver.new result }
     ensures never { result ≢ Err faults.Failed }
     ensures first { IsFirst result }
 {
@@ -90,7 +92,8 @@ impl<'a> VersionReader<'a> {
         set: &'a Applied,
     ) -> Result<VersionReader<'a>, Memory>
         ensures name { IfOk result (λ r. name_of r ≡ name.now) }
-        ensures coming { (told : Option (List ℕ)) (file : List ℕ) (items : List Item) → IsBody told front.now set.now file items
+        ensures coming { (told : Option (List ℕ)) (file : List ℕ) (items : List Item)
+            → IsBody told front.now set.now file items
             → IfOk result (λ r. Coming file r (shown set.now (lines_of items))) }
         ensures read { IfOk result (λ r. has set.now 0 ≡ false → HasRead (live_serials front.now.header.records) r []) }
         ensures set { IfOk result (λ r. r.set ≡ set.now) }
@@ -151,8 +154,10 @@ impl<'a> VersionReader<'a> {
         ensures first { KeepsFirst self.old self.new }
         ensures name { name_of self.new ≡ name_of self.old }
         ensures left { steps_to_end self.new ≤ steps_to_end self.old }
-        ensures coming { (file : List ℕ) (lines : List HistoryLine) → Coming file self.old lines → Coming file self.new lines }
-        ensures read { (live : List ℕ) (before : List Item) → HasRead live self.old before → ReadsOn live self.new self.old.regions before [] }
+        ensures coming { (file : List ℕ) (lines : List HistoryLine) → Coming file self.old lines
+            → Coming file self.new lines }
+        ensures read { (live : List ℕ) (before : List Item) → HasRead live self.old before
+            → ReadsOn live self.new self.old.regions before [] }
     {
         if !self.weaver.keep() {
             let count = self.items.texts().len();
@@ -178,9 +183,11 @@ impl<'a> VersionReader<'a> {
         ensures first { KeepsFirst self.old self.new }
         ensures name { name_of self.new ≡ name_of self.old }
         ensures further { IfOk result (λ n. n ≢ next.End → bytes_left self.new.items < bytes_left self.old.items) }
-        ensures told { (file : List ℕ) (lines : List HistoryLine) → bytes_in (seen (D.told disk.old)) (name_of self.old) ≡ Some file
+        ensures told { (file : List ℕ) (lines : List HistoryLine) → bytes_in (seen (D.told disk.old)) (name_of self.old)
+            ≡ Some file
             → Coming file self.old lines → GivesNextLine file self.new lines result }
-        ensures read { (live : List ℕ) (before : List Item) → HasRead live self.old before → ReadsNext live self.new before result }
+        ensures read { (live : List ℕ) (before : List Item) → HasRead live self.old before
+            → ReadsNext live self.new before result }
     {
         match self.items.next(disk)? {
             Some(item) => show_item(&mut self.weaver, self.set, item),
@@ -198,9 +205,11 @@ impl<'a> VersionReader<'a> {
         ensures first { KeepsFirst self.old self.new }
         ensures name { name_of self.new ≡ name_of self.old }
         ensures further { IfOk result (λ n. n ≢ next.End → steps_to_end self.new < steps_to_end self.old) }
-        ensures told { (file : List ℕ) (lines : List HistoryLine) → bytes_in (seen (D.told disk.old)) (name_of self.old) ≡ Some file
+        ensures told { (file : List ℕ) (lines : List HistoryLine) → bytes_in (seen (D.told disk.old)) (name_of self.old)
+            ≡ Some file
             → Coming file self.old lines → GivesNextLine file self.new lines result }
-        ensures read { (live : List ℕ) (before : List Item) → HasRead live self.old before → ReadsNext live self.new before result }
+        ensures read { (live : List ℕ) (before : List Item) → HasRead live self.old before
+            → ReadsNext live self.new before result }
     {
         if let Some(item) = self.items.next_control() {
             return show_item(&mut self.weaver, self.set, item);
@@ -222,9 +231,11 @@ impl<'a> VersionReader<'a> {
         ensures first { KeepsFirst self.old self.new }
         ensures name { name_of self.new ≡ name_of self.old }
         ensures further { IfOk result (λ n. n ≢ next.End → steps_to_end self.new < steps_to_end self.old) }
-        ensures told { (file : List ℕ) (lines : List HistoryLine) → bytes_in (seen (D.told disk.old)) (name_of self.old) ≡ Some file
+        ensures told { (file : List ℕ) (lines : List HistoryLine) → bytes_in (seen (D.told disk.old)) (name_of self.old)
+            ≡ Some file
             → Coming file self.old lines → GivesNextLine file self.new lines result }
-        ensures read { (live : List ℕ) (before : List Item) → HasRead live self.old before → ReadsNext live self.new before result }
+        ensures read { (live : List ℕ) (before : List Item) → HasRead live self.old before
+            → ReadsNext live self.new before result }
     {
         self.pass_hidden();
         self.next_behind(disk)

@@ -1,6 +1,8 @@
-ghost use Rattle.std.specs.Prelude.{◌≡◌, ◌≤◌, ◌↔◌, [], ◌∷◌, Some, not, ◌&&◌, length, if◌then◌else◌, IfOk, IsTrue, OnOk, OnErr};
+ghost use Rattle.std.specs.Prelude.{◌≡◌, ◌≤◌, ◌↔◌, [], ◌∷◌, Some, not, ◌&&◌, length, if◌then◌else◌, IfOk, IsTrue, OnOk};
+ghost use Rattle.std.specs.Prelude.{OnErr};
 ghost use Rattle.std.specs.List.Sorted.{IsSearchInRange};
-ghost use Rattle.sccs_versions.specs.Regions.{AreSorted, regions_after, without_region, first_insert, keeps, with_region};
+ghost use Rattle.sccs_versions.specs.Regions.{AreSorted, regions_after, without_region, first_insert, keeps};
+ghost use Rattle.sccs_versions.specs.Regions.{with_region};
 ghost use Rattle.sccs_versions.specs.Stacks.{AreAnswered, after_first_region, first_serial, IsLow, IsPlace, stacked};
 
 use sccs_history::Item;
@@ -195,7 +197,8 @@ pub fn take_item(
     applied: &Applied,
 ) -> Result<bool, AllocError>
     requires { AreAnswered regions.old.items keep }
-    ensures ok { OnOk result (stacked [] regions.new.items ≡ regions_after applied.now item.now (stacked [] regions.old.items)) }
+    ensures ok { OnOk result (stacked [] regions.new.items ≡ regions_after applied.now item.now
+        (stacked [] regions.old.items)) }
     ensures keep { IfOk result (λ k. k ≡ keeps (stacked [] regions.new.items)) }
     ensures err { OnErr result (regions.new.items ≡ regions.old.items) }
 {

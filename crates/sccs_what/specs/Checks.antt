@@ -18,4 +18,11 @@ kept_by first n (Some c) d is = by (nat_lt file_limit (length c.bytes)) is
 
 -- it changes no file
 pub what_keeps : (first : Bool) → KeepsFiles (what_action first)
-what_keeps first = record { quiet = λ reads n i named f d is. kept_by first n f.s d is; names = λ changes n fits. absurd cc; locked = λ changes locks n i named f d is there g new. absurd cc; pending = λ changes never n i v f d there is. absurd cc }
+what_keeps first = record {
+  quiet = λ reads n i named f d is. kept_by first n f.s d is;
+  names =
+      λ changes n fits. absurd cc;
+  locked = λ changes locks n i named f d is there g new. absurd cc;
+  pending =
+      λ changes never n i v f d there is. absurd cc;
+}

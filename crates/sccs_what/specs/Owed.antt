@@ -1,5 +1,7 @@
--- How far a search has come, and what it owes for the bytes to come: so that a mark or a text may lie across two pieces.
-use Rattle.std.specs.Prelude.{◌≡◌, ℕ, ◌+◌, ◌*◌, ◌≤◌, Bool, true, false, ◌||◌, List, [], ◌∷◌, ◌++◌, length, drop, nat_lt, Option, if◌then◌else◌, Result, IfOk, OnErr}
+-- How far a search has come, and what it owes for the bytes to come: so that a mark or a text may lie across two
+-- pieces.
+use Rattle.std.specs.Prelude.{◌≡◌, ℕ, ◌+◌, ◌*◌, ◌≤◌, Bool, true, false, ◌||◌, List, [], ◌∷◌, ◌++◌, length, drop, nat_lt}
+use Rattle.std.specs.Prelude.{Option, if◌then◌else◌, Result, IfOk, OnErr}
 use Rattle.sccs_base.specs.Constants.{lf}
 use Rattle.sccs_base.specs.Stream.{Buffers, GivesSome}
 use Rattle.sccs_base.specs.declared.streams.Failed.{Failed}
@@ -53,7 +55,8 @@ work_left Giving bytes = 2 * length bytes + 1
 work_left Found bytes = 2 * length bytes
 
 -- Some bytes at the front of a piece were searched: what was printed and what is owed then are what was owed.
-pub record Searches (first : Bool) (bytes : List ℕ) (used : ℕ) (s s2 : Search) (held held2 : List ℕ) (a b : Option (List ℕ)) : Type 0 where
+pub record Searches (first : Bool) (bytes : List ℕ) (used : ℕ) (s s2 : Search) (held held2 : List ℕ)
+    (a b : Option (List ℕ)) : Type 0 where
   pub text : List ℕ
   pub gives : Buffers held text held2 a b
   pub owes : (rest : List ℕ) → text ++ what_owed first s2 (drop used bytes ++ rest) ≡ what_owed first s (bytes ++ rest)
@@ -61,7 +64,8 @@ pub record Searches (first : Bool) (bytes : List ℕ) (used : ℕ) (s s2 : Searc
   pub within : used ≤ length bytes
 
 -- What searching bytes answers and gives: how many were searched; where the sink failed, a prefix of what was owed.
-pub record SearchesPiece (first : Bool) (bytes : List ℕ) (s s2 : Search) (held held2 : List ℕ) (a b : Option (List ℕ)) (r : Result ℕ Failed) : Type 0 where
+pub record SearchesPiece (first : Bool) (bytes : List ℕ) (s s2 : Search) (held held2 : List ℕ) (a b : Option (List ℕ))
+    (r : Result ℕ Failed) : Type 0 where
   pub ok : IfOk r (λ used. Searches first bytes used s s2 held held2 a b)
   pub err : OnErr r ((rest : List ℕ) → GivesSome a b (held ++ what_owed first s (bytes ++ rest)))
   pub empty : OnErr r (held2 ≡ [])

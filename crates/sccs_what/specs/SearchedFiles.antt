@@ -9,13 +9,15 @@ use Rattle.sccs_what.specs.Owed.{Searches, finds, last_end, what_owed, was_found
 use Rattle.sccs_what.specs.declared.searches.Search.{Search}
 
 -- The bytes that are left of a file were searched at their front, and the search goes on at a later place.
-pub record SearchGoesOn (first : Bool) (left : List ℕ) (from next : ℕ) (s s2 : Search) (held held2 : List ℕ) (a b : Option (List ℕ)) : Type 0 where
+pub record SearchGoesOn (first : Bool) (left : List ℕ) (from next : ℕ) (s s2 : Search) (held held2 : List ℕ)
+    (a b : Option (List ℕ)) : Type 0 where
   pub used : ℕ
   pub place : next ≡ from + used
   pub searches : Searches first left used s s2 held held2 a b
 
 -- They were searched, and nothing more is to be found.
-pub record ComesToEnd (first : Bool) (left : List ℕ) (s s2 : Search) (held held2 : List ℕ) (a b : Option (List ℕ)) : Type 0 where
+pub record ComesToEnd (first : Bool) (left : List ℕ) (s s2 : Search) (held held2 : List ℕ)
+    (a b : Option (List ℕ)) : Type 0 where
   pub used : ℕ
   pub searches : Searches first left used s s2 held held2 a b
   pub owes : what_owed first s2 (drop used left) ≡ last_end s2
@@ -28,15 +30,19 @@ pub record Rests (s s2 : Search) (held held2 : List ℕ) (a b : Option (List ℕ
   pub same_given : b ≡ a
 
 -- what the search of a piece leaves of the bytes that are left
-abbrev pub SearchesPiece : Bool → List ℕ → ℕ → Search → Search → List ℕ → List ℕ → Option (List ℕ) → Option (List ℕ) → Result (Option ℕ) StepFault → Type 0
-SearchesPiece first left from s s2 held held2 a b (Ok (Some next)) = SearchGoesOn first left from next s s2 held held2 a b
+abbrev pub SearchesPiece : Bool → List ℕ → ℕ → Search → Search → List ℕ → List ℕ → Option (List ℕ) → Option (List ℕ)
+    → Result (Option ℕ) StepFault → Type 0
+SearchesPiece first left from s s2 held held2 a b (Ok (Some next)) = SearchGoesOn first left from next s s2 held held2 a
+    b
 SearchesPiece first left from s s2 held held2 a b (Ok None) = ComesToEnd first left s s2 held held2 a b
-SearchesPiece first left from s s2 held held2 a b (Err WriteFault) = GivesSome a b (held ++ what_owed first s left) × (held2 ≡ [])
+SearchesPiece first left from s s2 held held2 a b (Err WriteFault) = GivesSome a b (held ++ what_owed first s left)
+    × (held2 ≡ [])
 SearchesPiece first left from s s2 held held2 a b (Err DiskFault) = Rests s s2 held held2 a b
 SearchesPiece first left from s s2 held held2 a b (Err _) = ⊥
 
 -- the end of a text that was being given is given, and whether something was found is answered
-abbrev pub FinishesSearch : Search → List ℕ → List ℕ → Option (List ℕ) → Option (List ℕ) → Result Bool StepFault → Type 0
+abbrev pub FinishesSearch : Search → List ℕ → List ℕ → Option (List ℕ) → Option (List ℕ) → Result Bool StepFault
+    → Type 0
 FinishesSearch s held held2 a b (Ok found) = Buffers held (last_end s) held2 a b × (found ≡ was_found s)
 FinishesSearch s held held2 a b (Err WriteFault) = GivesSome a b (held ++ last_end s) × (held2 ≡ [])
 FinishesSearch s held held2 a b (Err _) = ⊥
@@ -49,8 +55,10 @@ pub record GivesPart (text held held2 : List ℕ) (a b : Option (List ℕ)) : Ty
   pub split : part ++ more ≡ text
 
 -- what the search of a file answers and gives
-abbrev pub SearchesFile : Bool → List ℕ → List ℕ → List ℕ → Option (List ℕ) → Option (List ℕ) → Result Bool StepFault → Type 0
-SearchesFile first bytes held held2 a b (Ok found) = Buffers held (marked_lines first bytes) held2 a b × (found ≡ is_found bytes)
+abbrev pub SearchesFile : Bool → List ℕ → List ℕ → List ℕ → Option (List ℕ) → Option (List ℕ) → Result Bool StepFault
+    → Type 0
+SearchesFile first bytes held held2 a b (Ok found) = Buffers held (marked_lines first bytes) held2 a b
+    × (found ≡ is_found bytes)
 SearchesFile first bytes held held2 a b (Err WriteFault) =
     GivesSome a b (held ++ marked_lines first bytes) × (held2 ≡ [])
 SearchesFile first bytes held held2 a b (Err DiskFault) = GivesPart (marked_lines first bytes) held held2 a b

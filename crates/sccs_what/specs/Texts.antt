@@ -1,5 +1,6 @@
 -- The texts behind the marks @(#) of a file: POSIX, Shell and Utilities, what.
-use Rattle.std.specs.Prelude.{ℕ, zero, suc, ◌+◌, Bool, false, not, ◌&&◌, ◌||◌, ◌==◌, List, [], ◌∷◌, ◌++◌, length, take, drop, flat_map, if◌then◌else◌}
+use Rattle.std.specs.Prelude.{ℕ, zero, suc, ◌+◌, Bool, false, not, ◌&&◌, ◌||◌, ◌==◌, List, [], ◌∷◌, ◌++◌, length, take}
+use Rattle.std.specs.Prelude.{drop, flat_map, if◌then◌else◌}
 use Rattle.sccs_base.specs.Constants.{lf}
 use Rattle.sccs_sid.specs.Reading.{is_empty}
 
@@ -17,13 +18,15 @@ abbrev pub until_end : List ℕ → List ℕ
 until_end [] = []
 until_end (b ∷ bytes) = if ends_text b then [] else b ∷ until_end bytes
 
--- The texts behind the marks of bytes of which so many at the front belong to what was found already. The search goes on at the
+-- The texts behind the marks of bytes of which so many at the front belong to what was found already. The search goes
+-- on at the
 -- byte that ended the text before.
 abbrev pub texts_behind_marks_after : ℕ → List ℕ → List (List ℕ)
 texts_behind_marks_after skip [] = []
 texts_behind_marks_after (suc skip) (b ∷ bytes) = texts_behind_marks_after skip bytes
 texts_behind_marks_after zero (b ∷ bytes) =
-    if is_marked (b ∷ bytes) then until_end (drop 3 bytes) ∷ texts_behind_marks_after (3 + length (until_end (drop 3 bytes))) bytes else texts_behind_marks_after zero bytes
+    if is_marked (b ∷ bytes) then until_end (drop 3 bytes) ∷ texts_behind_marks_after
+    (3 + length (until_end (drop 3 bytes))) bytes else texts_behind_marks_after zero bytes
 
 -- the texts behind the marks of bytes
 abbrev pub texts_behind_marks : List ℕ → List (List ℕ)

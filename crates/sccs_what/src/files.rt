@@ -1,4 +1,5 @@
-ghost use Rattle.std.specs.Prelude.{◌≡◌, ◌≢◌, ◌<◌, ◌≤◌, ℕ, Bool, List, [], Option, Some, Err, IfOk, IfSome, length, drop};
+ghost use Rattle.std.specs.Prelude.{◌≡◌, ◌≢◌, ◌<◌, ◌≤◌, ℕ, Bool, List, [], Option, Some, Err, IfOk, IfSome, length};
+ghost use Rattle.std.specs.Prelude.{drop};
 ghost use Rattle.sccs_base.specs.Constants.{file_limit};
 ghost use Rattle.sccs_base.specs.Stream.{Buffers, Rose};
 ghost use Rattle.sccs_disk.specs.Told.{seen};
@@ -32,7 +33,8 @@ fn search_next<O: Sink, D: Disk>(
     requires room { 4 ≤ length piece.old }
     requires small { length piece.old ≤ 4096 }
     ensures told { (bytes : List ℕ) → file_bytes (seen (D.told disk.old)) name.now ≡ Some bytes
-        → SearchesPiece first (drop from bytes) from search.old search.new held.old held.new (O.given out.old) (O.given out.new) result }
+        → SearchesPiece first (drop from bytes) from search.old search.new held.old held.new (O.given out.old)
+        (O.given out.new) result }
     ensures further { IfOk result (λ o. IfSome o (λ next. from < next)) }
     ensures checks { (refusal : Refusal) → result ≢ Err (faults.Refused refusal) }
     ensures same { D.told disk.new ≡ D.told disk.old }
@@ -98,10 +100,14 @@ fn flush_after<O: Sink>(
     held: &mut OutputBuffer,
     out: &mut O,
 ) -> Result<bool, StepFault>
-    ensures prints { (first : Bool) (bytes name front : List ℕ) (a b : Option (List ℕ)) → Buffers [] (heading name) front a b
-        → SearchesFile first bytes front held.old b (O.given out.old) searched → PrintsTexts first name bytes a (O.given out.new) result }
-    ensures checks { (refusal : Refusal) → searched ≢ Err (faults.Refused refusal) → result ≢ Err (faults.Refused refusal) }
-    ensures causes { (o d d2 : ℕ) → PrintCauses searched o (O.faults out.old) d d2 → PrintCauses result o (O.faults out.new) d d2 }
+    ensures prints { (first : Bool) (bytes name front : List ℕ) (a b : Option (List ℕ))
+        → Buffers [] (heading name) front a b
+        → SearchesFile first bytes front held.old b (O.given out.old) searched → PrintsTexts first name bytes a
+        (O.given out.new) result }
+    ensures checks { (refusal : Refusal) → searched ≢ Err (faults.Refused refusal)
+        → result ≢ Err (faults.Refused refusal) }
+    ensures causes { (o d d2 : ℕ) → PrintCauses searched o (O.faults out.old) d d2
+        → PrintCauses result o (O.faults out.new) d d2 }
 {
     match held.flush(out) {
         Ok(()) => searched,

@@ -44,7 +44,8 @@ fn give_text<O: Sink>(
 ) -> Result<usize, Failed>
     requires giving { search.old ≡ searches.Giving }
     requires some { 0 < length bytes.now }
-    ensures piece { SearchesPiece first bytes.now search.old search.new held.old held.new (O.given out.old) (O.given out.new) result }
+    ensures piece { SearchesPiece first bytes.now search.old search.new held.old held.new (O.given out.old)
+        (O.given out.new) result }
     ensures less { IfOk result (λ used. work_left search.new (drop used bytes.now) < work_left search.old bytes.now) }
     ensures later { O.faults out.old ≤ O.faults out.new }
     ensures cause { OnErr result (Rose (O.faults out.old) (O.faults out.new)) }
@@ -70,7 +71,8 @@ fn find_mark<O: Sink>(
 ) -> Result<usize, Failed>
     requires seeking { search_is_over first search.old bytes.now ≡ false }
     requires other { search.old ≢ searches.Giving }
-    ensures piece { SearchesPiece first bytes.now search.old search.new held.old held.new (O.given out.old) (O.given out.new) result }
+    ensures piece { SearchesPiece first bytes.now search.old search.new held.old held.new (O.given out.old)
+        (O.given out.new) result }
     ensures less { IfOk result (λ used. work_left search.new (drop used bytes.now) < work_left search.old bytes.now) }
     ensures later { O.faults out.old ≤ O.faults out.new }
     ensures cause { OnErr result (Rose (O.faults out.old) (O.faults out.new)) }
@@ -96,7 +98,8 @@ fn step<O: Sink>(
     out: &mut O,
 ) -> Result<usize, Failed>
     requires { search_is_over first search.old bytes.now ≡ false }
-    ensures piece { SearchesPiece first bytes.now search.old search.new held.old held.new (O.given out.old) (O.given out.new) result }
+    ensures piece { SearchesPiece first bytes.now search.old search.new held.old held.new (O.given out.old)
+        (O.given out.new) result }
     ensures less { IfOk result (λ used. work_left search.new (drop used bytes.now) < work_left search.old bytes.now) }
     ensures later { O.faults out.old ≤ O.faults out.new }
     ensures cause { OnErr result (Rose (O.faults out.old) (O.faults out.new)) }
@@ -140,7 +143,8 @@ pub fn search_piece<O: Sink>(
     held: &mut OutputBuffer,
     out: &mut O,
 ) -> Result<usize, Failed>
-    ensures piece { SearchesPiece first piece.now search.old search.new held.old held.new (O.given out.old) (O.given out.new) result }
+    ensures piece { SearchesPiece first piece.now search.old search.new held.old held.new (O.given out.old)
+        (O.given out.new) result }
     ensures over { IfOk result (λ used. search_is_over first search.new (drop used piece.now) ≡ true) }
     ensures later { O.faults out.old ≤ O.faults out.new }
     ensures cause { OnErr result (Rose (O.faults out.old) (O.faults out.new)) }

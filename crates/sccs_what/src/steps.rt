@@ -19,7 +19,8 @@ pub fn what<O: Sink, D: Disk>(
     out: &mut O,
     disk: &mut D,
 ) -> Result<bool, StepFault>
-    ensures meets { MeetsWhat first name.now result (seen (D.told disk.old)) (seen (D.told disk.new)) (O.given out.old) (O.given out.new) }
+    ensures meets { MeetsWhat first name.now result (seen (D.told disk.old)) (seen (D.told disk.new)) (O.given out.old)
+        (O.given out.new) }
     ensures same { D.told disk.new ≡ D.told disk.old }
     ensures checks { RefusesWithin what_checks result }
     ensures causes { PrintCauses result (O.faults out.old) (O.faults out.new) (D.faults disk.old) (D.faults disk.new) }

@@ -22,7 +22,8 @@ commands :
     × Says (codes "admin" ∷ codes "-n" ∷ codes "-m" ∷ codes "m1" ∷ codes "s.a" ∷ []) 0 0
     × Says (codes "admin" ∷ codes "-h" ∷ codes "s.a" ∷ codes "s.b" ∷ []) 0 0
     × Says (codes "admin" ∷ codes "-i" ∷ codes "-r2" ∷ codes "s.a" ∷ []) 0 0
-    × Says (codes "admin" ∷ codes "-a" ∷ codes "u" ∷ codes "-a" ∷ codes "!v" ∷ codes "-e" ∷ codes "w" ∷ codes "s.a" ∷ []) 0 0
+    × Says (codes "admin" ∷ codes "-a" ∷ codes "u" ∷ codes "-a" ∷ codes "!v" ∷ codes "-e" ∷ codes "w" ∷ codes "s.a"
+    ∷ []) 0 0
     × Says (codes "admin" ∷ codes "-n" ∷ codes "-y" ∷ codes "text" ∷ codes "s.a" ∷ []) 0 0
     × Says (codes "get" ∷ codes "s.a" ∷ []) 0 0
     × Says (codes "get" ∷ codes "-kps" ∷ codes "-r" ∷ codes "1.2" ∷ codes "s.a" ∷ []) 0 0
@@ -47,8 +48,41 @@ commands :
     × Says (codes "soak" ∷ codes "2000" ∷ []) 0 0
     × Says (codes "cdc" ∷ codes "-r1.2" ∷ codes "-y" ∷ codes "s.a" ∷ []) 0 0
     × Says (codes "cdc" ∷ codes "-r1.2" ∷ codes "-m" ∷ codes "!m1" ∷ codes "s.a" ∷ codes "s.b" ∷ []) 0 0
-unfolding meaning utility_of line_meaning find_option scanned letters turn usage_fault use_fault first_from operand_fault end_fault value_of values_of split_from is_login number number_at digits_after byte_at sid_of numbers_after spec_of list_of ranges_of piece_at range_at last_at sid_at branch_at component_at cutoff_of skip
-commands = (refl, refl, refl, refl, refl, refl, refl, refl, refl, refl, refl, refl, refl, refl, refl, refl, refl, refl, refl, refl, refl, refl, refl, refl, refl, refl, refl, refl, refl, refl)
+unfolding meaning utility_of line_meaning find_option scanned letters turn usage_fault use_fault first_from
+    operand_fault end_fault value_of values_of split_from is_login number number_at digits_after byte_at sid_of
+    numbers_after spec_of list_of ranges_of piece_at range_at last_at sid_at branch_at component_at cutoff_of skip
+commands = (
+  refl,
+  refl,
+  refl,
+  refl,
+  refl,
+  refl,
+  refl,
+  refl,
+  refl,
+  refl,
+  refl,
+  refl,
+  refl,
+  refl,
+  refl,
+  refl,
+  refl,
+  refl,
+  refl,
+  refl,
+  refl,
+  refl,
+  refl,
+  refl,
+  refl,
+  refl,
+  refl,
+  refl,
+  refl,
+  refl,
+)
 
 -- tell and check, as sact
 pending_edits :
@@ -57,19 +91,24 @@ pending_edits :
     × Says (codes "check" ∷ codes "-s" ∷ codes "s.a" ∷ []) 2 2
     × Says (codes "tell" ∷ codes "s.a" ∷ codes "-" ∷ []) 5 3
     × Says (codes "tell" ∷ []) 7 2
-unfolding meaning utility_of line_meaning find_option scanned letters turn usage_fault use_fault first_from operand_fault end_fault value_of values_of split_from is_login number number_at digits_after byte_at sid_of numbers_after spec_of list_of ranges_of piece_at range_at last_at sid_at branch_at component_at cutoff_of skip
+unfolding meaning utility_of line_meaning find_option scanned letters turn usage_fault use_fault first_from
+    operand_fault end_fault value_of values_of split_from is_login number number_at digits_after byte_at sid_of
+    numbers_after spec_of list_of ranges_of piece_at range_at last_at sid_at branch_at component_at cutoff_of skip
 pending_edits = (refl, refl, refl, refl, refl)
 
 -- the bits of val: 64 for a fault of an option, 128 for no operand
 bits :
     Says (codes "val" ∷ codes "s.a" ∷ []) 0 0
     × Says (codes "val" ∷ codes "-" ∷ []) 0 0
-    × Says (codes "val" ∷ codes "-s" ∷ codes "-mx" ∷ codes "-r" ∷ codes "1.2" ∷ codes "-yt" ∷ codes "s.a" ∷ codes "s.b" ∷ []) 0 0
+    × Says (codes "val" ∷ codes "-s" ∷ codes "-mx" ∷ codes "-r" ∷ codes "1.2" ∷ codes "-yt" ∷ codes "s.a" ∷ codes "s.b"
+    ∷ []) 0 0
     × Says (codes "val" ∷ []) 0 128
     × Says (codes "val" ∷ codes "-q" ∷ []) 0 192
     × Says (codes "val" ∷ codes "-m" ∷ []) 0 192
     × Says (codes "val" ∷ codes "-ma" ∷ codes "-mb" ∷ codes "s.a" ∷ []) 0 64
     × Says (codes "val" ∷ codes "-" ∷ codes "s.a" ∷ []) 0 64
     × Says (codes "val" ∷ codes "-s" ∷ codes "-q" ∷ codes "-ma" ∷ codes "s.a" ∷ []) 0 64
-unfolding meaning utility_of line_meaning find_option scanned letters turn usage_fault use_fault first_from operand_fault end_fault value_of values_of split_from is_login number number_at digits_after byte_at sid_of numbers_after spec_of list_of ranges_of piece_at range_at last_at sid_at branch_at component_at cutoff_of skip
+unfolding meaning utility_of line_meaning find_option scanned letters turn usage_fault use_fault first_from
+    operand_fault end_fault value_of values_of split_from is_login number number_at digits_after byte_at sid_of
+    numbers_after spec_of list_of ranges_of piece_at range_at last_at sid_at branch_at component_at cutoff_of skip
 bits = (refl, refl, refl, refl, refl, refl, refl, refl, refl)

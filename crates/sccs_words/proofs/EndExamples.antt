@@ -38,8 +38,32 @@ malformed_value :
     × Says (codes "soak" ∷ codes "0" ∷ []) 6 2
     × Says (codes "soak" ∷ codes "2001" ∷ []) 6 2
     × Says (codes "soak" ∷ codes "--" ∷ codes "x" ∷ []) 6 3
-unfolding meaning utility_of line_meaning find_option scanned letters turn usage_fault use_fault first_from operand_fault end_fault value_of values_of split_from is_login number number_at digits_after byte_at sid_of numbers_after spec_of list_of ranges_of piece_at range_at last_at sid_at branch_at component_at cutoff_of skip
-malformed_value = (refl, refl, refl, refl, refl, refl, refl, refl, refl, refl, refl, refl, refl, refl, refl, refl, refl, refl, refl, refl, refl)
+unfolding meaning utility_of line_meaning find_option scanned letters turn usage_fault use_fault first_from
+    operand_fault end_fault value_of values_of split_from is_login number number_at digits_after byte_at sid_of
+    numbers_after spec_of list_of ranges_of piece_at range_at last_at sid_at branch_at component_at cutoff_of skip
+malformed_value = (
+  refl,
+  refl,
+  refl,
+  refl,
+  refl,
+  refl,
+  refl,
+  refl,
+  refl,
+  refl,
+  refl,
+  refl,
+  refl,
+  refl,
+  refl,
+  refl,
+  refl,
+  refl,
+  refl,
+  refl,
+  refl,
+)
 
 -- an empty value; it can only be the next word
 malformed_empty :
@@ -48,7 +72,9 @@ malformed_empty :
     × Says (codes "admin" ∷ codes "-n" ∷ codes "-m" ∷ [] ∷ codes "s.a" ∷ []) 6 4
     × Says (codes "get" ∷ codes "-s" ∷ codes "-r" ∷ [] ∷ []) 6 4
     × Says (codes "soak" ∷ [] ∷ []) 6 2
-unfolding meaning utility_of line_meaning find_option scanned letters turn usage_fault use_fault first_from operand_fault end_fault value_of values_of split_from is_login number number_at digits_after byte_at sid_of numbers_after spec_of list_of ranges_of piece_at range_at last_at sid_at branch_at component_at cutoff_of skip
+unfolding meaning utility_of line_meaning find_option scanned letters turn usage_fault use_fault first_from
+    operand_fault end_fault value_of values_of split_from is_login number number_at digits_after byte_at sid_of
+    numbers_after spec_of list_of ranges_of piece_at range_at last_at sid_at branch_at component_at cutoff_of skip
 malformed_empty = (refl, refl, refl, refl, refl)
 
 -- no operand, at the number of words and one more
@@ -65,7 +91,9 @@ no_operand :
     × Says (codes "import" ∷ []) 7 2
     × Says (codes "soak" ∷ []) 7 2
     × Says (codes "cdc" ∷ codes "-r1.2" ∷ codes "-y" ∷ []) 7 4
-unfolding meaning utility_of line_meaning find_option scanned letters turn usage_fault use_fault first_from operand_fault end_fault value_of values_of split_from is_login number number_at digits_after byte_at sid_of numbers_after spec_of list_of ranges_of piece_at range_at last_at sid_at branch_at component_at cutoff_of skip
+unfolding meaning utility_of line_meaning find_option scanned letters turn usage_fault use_fault first_from
+    operand_fault end_fault value_of values_of split_from is_login number number_at digits_after byte_at sid_of
+    numbers_after spec_of list_of ranges_of piece_at range_at last_at sid_at branch_at component_at cutoff_of skip
 no_operand = (refl, refl, refl, refl, refl, refl, refl, refl, refl, refl, refl, refl)
 
 -- an option that is needed
@@ -80,7 +108,9 @@ option_needed :
     × Says (codes "cdc" ∷ codes "-r1.2" ∷ codes "s.a" ∷ []) 8 4
     × Says (codes "cdc" ∷ codes "-mm1" ∷ codes "s.a" ∷ []) 8 4
     × Says (codes "cdc" ∷ codes "-y" ∷ codes "s.a" ∷ []) 8 4
-unfolding meaning utility_of line_meaning find_option scanned letters turn usage_fault use_fault first_from operand_fault end_fault value_of values_of split_from is_login number number_at digits_after byte_at sid_of numbers_after spec_of list_of ranges_of piece_at range_at last_at sid_at branch_at component_at cutoff_of skip
+unfolding meaning utility_of line_meaning find_option scanned letters turn usage_fault use_fault first_from
+    operand_fault end_fault value_of values_of split_from is_login number number_at digits_after byte_at sid_of
+    numbers_after spec_of list_of ranges_of piece_at range_at last_at sid_at branch_at component_at cutoff_of skip
 option_needed = (refl, refl, refl, refl, refl, refl, refl, refl, refl, refl)
 
 -- too many operands
@@ -90,5 +120,7 @@ too_many :
     × Says (codes "soak" ∷ codes "1" ∷ codes "2" ∷ []) 9 4
     × Says (codes "admin" ∷ codes "-i" ∷ codes "s.a" ∷ codes "s.b" ∷ []) 9 5
     × Says (codes "admin" ∷ codes "-i" ∷ codes "-r2" ∷ codes "s.a" ∷ codes "s.b" ∷ []) 9 6
-unfolding meaning utility_of line_meaning find_option scanned letters turn usage_fault use_fault first_from operand_fault end_fault value_of values_of split_from is_login number number_at digits_after byte_at sid_of numbers_after spec_of list_of ranges_of piece_at range_at last_at sid_at branch_at component_at cutoff_of skip
+unfolding meaning utility_of line_meaning find_option scanned letters turn usage_fault use_fault first_from
+    operand_fault end_fault value_of values_of split_from is_login number number_at digits_after byte_at sid_of
+    numbers_after spec_of list_of ranges_of piece_at range_at last_at sid_at branch_at component_at cutoff_of skip
 too_many = (refl, refl, refl, refl, refl)

@@ -21,7 +21,9 @@ unknown_utility :
     × Says (codes "vc" ∷ []) 1 1
     × Says (codes "GET" ∷ codes "s.a" ∷ []) 1 1
     × Says (codes "getx" ∷ codes "-q" ∷ codes "s.a" ∷ []) 1 1
-unfolding meaning utility_of line_meaning find_option scanned letters turn usage_fault use_fault first_from operand_fault end_fault value_of values_of split_from is_login number number_at digits_after byte_at sid_of numbers_after spec_of list_of ranges_of piece_at range_at last_at sid_at branch_at component_at cutoff_of skip
+unfolding meaning utility_of line_meaning find_option scanned letters turn usage_fault use_fault first_from
+    operand_fault end_fault value_of values_of split_from is_login number number_at digits_after byte_at sid_of
+    numbers_after spec_of list_of ranges_of piece_at range_at last_at sid_at branch_at component_at cutoff_of skip
 unknown_utility = (refl, refl, refl, refl)
 
 -- an unknown option in the first word after the utility, in a middle one, in the last
@@ -37,7 +39,9 @@ unknown_option :
     × Says (codes "import" ∷ codes "-s" ∷ codes "s.a" ∷ []) 2 2
     × Says (codes "batch" ∷ codes "-a" ∷ []) 2 2
     × Says (codes "soak" ∷ codes "-n" ∷ codes "5" ∷ []) 2 2
-unfolding meaning utility_of line_meaning find_option scanned letters turn usage_fault use_fault first_from operand_fault end_fault value_of values_of split_from is_login number number_at digits_after byte_at sid_of numbers_after spec_of list_of ranges_of piece_at range_at last_at sid_at branch_at component_at cutoff_of skip
+unfolding meaning utility_of line_meaning find_option scanned letters turn usage_fault use_fault first_from
+    operand_fault end_fault value_of values_of split_from is_login number number_at digits_after byte_at sid_of
+    numbers_after spec_of list_of ranges_of piece_at range_at last_at sid_at branch_at component_at cutoff_of skip
 unknown_option = (refl, refl, refl, refl, refl, refl, refl, refl, refl, refl, refl)
 
 -- a missing argument stands always in the last word
@@ -50,7 +54,9 @@ missing_argument :
     × Says (codes "rmdel" ∷ codes "-r" ∷ []) 3 2
     × Says (codes "admin" ∷ codes "-a" ∷ codes "u" ∷ codes "-a" ∷ []) 3 4
     × Says (codes "delta" ∷ codes "-m" ∷ []) 3 2
-unfolding meaning utility_of line_meaning find_option scanned letters turn usage_fault use_fault first_from operand_fault end_fault value_of values_of split_from is_login number number_at digits_after byte_at sid_of numbers_after spec_of list_of ranges_of piece_at range_at last_at sid_at branch_at component_at cutoff_of skip
+unfolding meaning utility_of line_meaning find_option scanned letters turn usage_fault use_fault first_from
+    operand_fault end_fault value_of values_of split_from is_login number number_at digits_after byte_at sid_of
+    numbers_after spec_of list_of ranges_of piece_at range_at last_at sid_at branch_at component_at cutoff_of skip
 missing_argument = (refl, refl, refl, refl, refl, refl, refl, refl)
 
 -- an option given twice
@@ -62,7 +68,9 @@ given_twice :
     × Says (codes "what" ∷ codes "-s" ∷ codes "-s" ∷ codes "f" ∷ []) 4 3
     × Says (codes "admin" ∷ codes "-h" ∷ codes "-h" ∷ codes "s.a" ∷ []) 4 3
     × Says (codes "rmdel" ∷ codes "-r1.2" ∷ codes "-r" ∷ codes "1.3" ∷ codes "s.a" ∷ []) 4 3
-unfolding meaning utility_of line_meaning find_option scanned letters turn usage_fault use_fault first_from operand_fault end_fault value_of values_of split_from is_login number number_at digits_after byte_at sid_of numbers_after spec_of list_of ranges_of piece_at range_at last_at sid_at branch_at component_at cutoff_of skip
+unfolding meaning utility_of line_meaning find_option scanned letters turn usage_fault use_fault first_from
+    operand_fault end_fault value_of values_of split_from is_login number number_at digits_after byte_at sid_of
+    numbers_after spec_of list_of ranges_of piece_at range_at last_at sid_at branch_at component_at cutoff_of skip
 given_twice = (refl, refl, refl, refl, refl, refl, refl)
 
 -- options that exclude each other, at the later word; then `-` with another operand
@@ -87,5 +95,28 @@ exclude_each_other :
     × Says (codes "get" ∷ codes "-k" ∷ codes "s.a" ∷ codes "s.b" ∷ codes "-" ∷ codes "s.c" ∷ []) 5 5
     × Says (codes "import" ∷ codes "s.a" ∷ codes "-" ∷ []) 5 3
     × Says (codes "batch" ∷ codes "-" ∷ codes "x" ∷ []) 5 3
-unfolding meaning utility_of line_meaning find_option scanned letters turn usage_fault use_fault first_from operand_fault end_fault value_of values_of split_from is_login number number_at digits_after byte_at sid_of numbers_after spec_of list_of ranges_of piece_at range_at last_at sid_at branch_at component_at cutoff_of skip
-exclude_each_other = (refl, refl, refl, refl, refl, refl, refl, refl, refl, refl, refl, refl, refl, refl, refl, refl, refl, refl, refl, refl)
+unfolding meaning utility_of line_meaning find_option scanned letters turn usage_fault use_fault first_from
+    operand_fault end_fault value_of values_of split_from is_login number number_at digits_after byte_at sid_of
+    numbers_after spec_of list_of ranges_of piece_at range_at last_at sid_at branch_at component_at cutoff_of skip
+exclude_each_other = (
+  refl,
+  refl,
+  refl,
+  refl,
+  refl,
+  refl,
+  refl,
+  refl,
+  refl,
+  refl,
+  refl,
+  refl,
+  refl,
+  refl,
+  refl,
+  refl,
+  refl,
+  refl,
+  refl,
+  refl,
+)

@@ -17,8 +17,10 @@ abbrev pub IsWordEnd : List ℕ → Type 0
 IsWordEnd [] = Unit {0}
 IsWordEnd (b ∷ bytes) = is_gap b ≡ true
 
--- The bytes are these words with gaps between two of them, and before the first and after the last as many as there are.
+-- The bytes are these words with gaps between two of them, and before the first and after the last as many as there
+-- are.
 abbrev pub AreWordsOf : List ℕ → List (List ℕ) → Type 0
 AreWordsOf bytes [] = AreGaps bytes
 AreWordsOf bytes (word ∷ words) =
-    (gaps after : List ℕ) × (bytes ≡ gaps ++ (word ++ after)) × AreGaps gaps × IsMrWord word × IsWordEnd after × AreWordsOf after words
+    (gaps after : List ℕ) × (bytes ≡ gaps ++ (word ++ after)) × AreGaps gaps × IsMrWord word × IsWordEnd after
+    × AreWordsOf after words

@@ -1,5 +1,6 @@
 -- The first fault of a command line, from left to right.
-use Rattle.std.specs.Prelude.{◌≡◌, ℕ, ◌+◌, ◌==◌, Bool, true, false, not, ◌&&◌, ◌||◌, List, [], ◌∷◌, ◌++◌, length, map, Option, None, Some, is_some, if◌then◌else◌}
+use Rattle.std.specs.Prelude.{◌≡◌, ℕ, ◌+◌, ◌==◌, Bool, true, false, not, ◌&&◌, ◌||◌, List, [], ◌∷◌, ◌++◌, length, map}
+use Rattle.std.specs.Prelude.{Option, None, Some, is_some, if◌then◌else◌}
 use Rattle.std.specs.Bool.{beq}
 use Rattle.std.specs.List.{list_any, list_all}
 use Rattle.std.specs.Str.{bytes_eq}
@@ -82,7 +83,8 @@ is_given_twice option before letter = not (repeats option) && has_letter letter 
 abbrev pub known_fault : Utility → List UsedLetter → Use → Option OptionSpec → Option Usage
 known_fault utility before one option =
     if is_given_twice option before one.letter then usage kinds.given_twice one.word
-    else if list_any (λ other. is_excluded (exclusions_of utility) (used_letter one) other) before then usage kinds.exclude one.word
+    else if list_any (λ other. is_excluded (exclusions_of utility) (used_letter one) other) before
+    then usage kinds.exclude one.word
     else value_fault option one.argument
 
 abbrev pub fault_by : Utility → List UsedLetter → Use → OptionArgument → Option Usage

@@ -1,5 +1,6 @@
 -- The command or the usage fault that words are.
-use Rattle.std.specs.Prelude.{◌≡◌, ℕ, ◌+◌, List, [], ◌∷◌, length, Option, None, Some, option_and_then, Result, Ok, Err, codes, if◌then◌else◌}
+use Rattle.std.specs.Prelude.{◌≡◌, ℕ, ◌+◌, List, [], ◌∷◌, length, Option, None, Some, option_and_then, Result, Ok, Err}
+use Rattle.std.specs.Prelude.{codes, if◌then◌else◌}
 use Rattle.std.specs.Str.{bytes_eq}
 use Rattle.sccs_sid.specs.declared.sids.Sid.{Sid}
 use Rattle.sccs_words.specs.Letters as opt
@@ -8,7 +9,8 @@ use Rattle.sccs_words.specs.UsageKinds as kinds
 use Rattle.sccs_words.specs.Values.{sid_value, name_value, soak_number}
 use Rattle.sccs_words.specs.Scan.{CommandLine, scanned}
 use Rattle.sccs_words.specs.Judge.{has_use, usage_fault}
-use Rattle.sccs_words.specs.Records.{value_of, admin_words, get_words, delta_line_words, unget_words, cdc_words, prs_words, val_words, operand_words}
+use Rattle.sccs_words.specs.Records.{value_of, admin_words, get_words, delta_line_words, unget_words, cdc_words}
+use Rattle.sccs_words.specs.Records.{prs_words, val_words, operand_words}
 use Rattle.sccs_words.specs.declared.scanning.Use.{Use}
 use Rattle.sccs_words.specs.declared.tables.Utility.{Utility}
 use Rattle.sccs_words.specs.declared.tables.Utility.TheVariants as u

@@ -1,5 +1,6 @@
 -- From the uses of options to the words of a command.
-use Rattle.std.specs.Prelude.{ℕ, ◌+◌, ◌==◌, Bool, true, false, ◌||◌, List, [], ◌∷◌, Option, None, Some, is_some, option_and_then, if◌then◌else◌}
+use Rattle.std.specs.Prelude.{ℕ, ◌+◌, ◌==◌, Bool, true, false, ◌||◌, List, [], ◌∷◌, Option, None, Some, is_some}
+use Rattle.std.specs.Prelude.{option_and_then, if◌then◌else◌}
 use Rattle.sccs_base.specs.Cut.{text_of}
 use Rattle.sccs_sid.specs.Reading.{is_empty}
 use Rattle.sccs_sid.specs.declared.sids.Sid.{Sid}
@@ -42,7 +43,8 @@ with_value (Some bytes) values = bytes ∷ values
 -- the values of all uses of the letter, in order
 unfoldable pub values_of : ℕ → List Use → List (List ℕ)
 values_of letter [] = []
-values_of letter (one ∷ uses) = with_value (if one.letter == letter then value_in one.argument else None) (values_of letter uses)
+values_of letter (one ∷ uses) = with_value (if one.letter == letter then value_in one.argument else None)
+    (values_of letter uses)
 
 -- the words of MRs, and the lines of a comment; none where there is no value
 abbrev pub mrs_of : Option (List ℕ) → List (List ℕ)
@@ -65,7 +67,8 @@ comment_of uses = if has_use opt.y uses then Some (option_lines (value_of opt.y 
 
 -- where the summary goes; the two options exclude each other
 abbrev pub summary_of : List Use → Summary
-summary_of uses = if has_use opt.l uses then summaries.File else if has_use opt.big_l uses then summaries.Out else summaries.No
+summary_of uses = if has_use opt.l uses then summaries.File else if has_use opt.big_l uses then summaries.Out
+    else summaries.No
 
 abbrev pub get_words : List Use → GetWords
 get_words uses = record {
@@ -95,7 +98,12 @@ delta_line_words uses = record {
 }
 
 abbrev pub unget_words : List Use → UngetWords
-unget_words uses = record { keep = has_use opt.n uses; sid = option_and_then sid_value (value_of opt.r uses); silent = has_use opt.s uses }
+unget_words uses = record {
+  keep = has_use opt.n uses;
+  sid = option_and_then sid_value (value_of opt.r uses);
+  silent =
+      has_use opt.s uses;
+}
 
 abbrev pub cdc_words : Sid → List Use → CdcWords
 cdc_words sid uses = record { sid = sid; mrs = mrs_of (value_of opt.m uses); comment = comment_of uses }
@@ -133,7 +141,8 @@ is_from_input (word ∷ []) = is_dash word
 is_from_input (word ∷ more ∷ words) = false
 
 abbrev pub operand_words : List (List ℕ) → Operands
-operand_words words = if is_from_input words then record { words = []; from_input = true } else record { words = words; from_input = false }
+operand_words words = if is_from_input words then record { words = []; from_input = true }
+    else record { words = words; from_input = false }
 
 -- the bits 0x40, an option is at fault or `-` stands with another operand, and 0x80, there is no operand
 abbrev pub usage_bit : Bool → ℕ → ℕ

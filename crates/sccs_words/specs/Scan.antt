@@ -84,7 +84,9 @@ by_kind n uses word words Operand more = scanned_line uses n (word ∷ words)
 -- the words from number n on, after these uses; a letter of the word before may wait for its value
 unfoldable pub scanned : List OptionSpec → ℕ → List Use → Option ℕ → List (List ℕ) → CommandLine
 scanned options n uses (Some letter) [] = scanned_line (uses ++ used letter (n - 1) Missing ∷ []) n []
-scanned options n uses (Some letter) (word ∷ words) = scanned options (n + 1) (uses ++ used letter (n - 1) (Value word n) ∷ []) None words
+scanned options n uses (Some letter) (word ∷ words) = scanned options (n + 1) (uses ++ used letter (n - 1)
+    (Value word n) ∷ []) None words
 scanned options n uses None [] = scanned_line uses n []
 scanned options n uses None (word ∷ words) =
-    by_kind n uses word words (word_kind word) (λ bytes. scanned options (n + 1) (letters options n uses bytes).0 (letters options n uses bytes).1 words)
+    by_kind n uses word words (word_kind word) (λ bytes. scanned options (n + 1) (letters options n uses bytes).0
+    (letters options n uses bytes).1 words)

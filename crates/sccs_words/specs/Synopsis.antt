@@ -11,7 +11,9 @@ use Rattle.sccs_words.specs.declared.tables.Need.TheVariants.{Always, Either, Wi
 use Rattle.sccs_words.specs.declared.tables.OperandRule.{OperandRule}
 use Rattle.sccs_words.specs.declared.tables.OperandRule.TheVariants.{Nothing, Sfile, Number, Many, Named, OneWith}
 use Rattle.sccs_words.specs.declared.tables.Utility.{Utility}
-use Rattle.sccs_words.specs.declared.tables.Utility.TheVariants.{Admin, Get, Delta, Unget, Sact, Tell, Check, Rmdel, Cdc, Prs, Val, What, Recover, Import, Batch, Group, Soak}
+use Rattle.sccs_words.specs.declared.tables.Utility.TheVariants.{Admin, Get, Delta, Unget, Sact, Tell, Check, Rmdel}
+use Rattle.sccs_words.specs.declared.tables.Utility.TheVariants.{Cdc, Prs, Val, What, Recover, Import, Batch, Group}
+use Rattle.sccs_words.specs.declared.tables.Utility.TheVariants.{Soak}
 
 -- the options of a utility
 abbrev pub options_of : Utility → List OptionSpec

@@ -20,7 +20,8 @@ pub record ArePrsValues (words : PrsWords) : Type 0 where
   pub cutoff : IfSome words.cutoff IsMoment
   pub sid : IfSome words.sid IsSid
 
--- the values of a command are valid; a release is 1 to 9999, as each number of a SID, and a soak makes at most 2,000 rounds
+-- the values of a command are valid; a release is 1 to 9999, as each number of a SID, and a soak makes at most 2,000
+-- rounds
 abbrev pub HasValidValues : Command → Type 0
 HasValidValues (c.Admin words operands) = IfSome words.release IsComponent
 HasValidValues (c.Get words operands) = AreGetValues words

@@ -1,5 +1,6 @@
 -- The values of options.
-use Rattle.std.specs.Prelude.{ℕ, ◌==◌, Bool, true, not, ◌&&◌, ◌||◌, List, [], ◌∷◌, nat_lt, nat_le, Option, is_some, option_and_then}
+use Rattle.std.specs.Prelude.{ℕ, ◌==◌, Bool, true, not, ◌&&◌, ◌||◌, List, [], ◌∷◌, nat_lt, nat_le, Option, is_some}
+use Rattle.std.specs.Prelude.{option_and_then}
 use Rattle.std.specs.Result.{result_ok}
 use Rattle.sccs_base.specs.Name.{is_name}
 use Rattle.sccs_base.specs.Login.{is_login}

@@ -1,5 +1,17 @@
 ghost use Rattle.std.specs.Prelude.{◌≡◌, ℕ, ◌+◌, ◌^◌, ◌<◌, [], ◌∷◌, ◌++◌, length, IfOk, OnOk};
-ghost use Rattle.sccs_words.specs.Judge.{has_use as has_spec, has_letter as has_letter_spec, used_letter as letter_spec, is_same as is_same_spec, excludes_by as excludes_by_spec, is_excluded as is_excluded_spec, is_bare as is_bare_spec, repeats as repeats_spec, option_form as form_spec, is_given_twice as is_given_twice_spec, known_fault as known_spec, fault_by as use_spec, uses_fault as uses_spec, SameLetters, is_dash as is_dash_spec, is_named as is_named_spec, operand_fits as operand_fits_spec, is_late_dash as is_late_dash_spec, dash_with_other as dash_with_other_spec, operand_fault as operand_spec, operands_fault as operands_spec, wants as wants_spec, met as met_spec, takes_one as takes_one_spec, too_many as too_many_spec, none_though_wanted as none_though_wanted_spec, end_fault as end_spec, usage_fault as first_spec};
+ghost use Rattle.sccs_words.specs.Judge.{has_use as has_spec, has_letter as has_letter_spec};
+ghost use Rattle.sccs_words.specs.Judge.{used_letter as letter_spec, is_same as is_same_spec};
+ghost use Rattle.sccs_words.specs.Judge.{excludes_by as excludes_by_spec, is_excluded as is_excluded_spec};
+ghost use Rattle.sccs_words.specs.Judge.{is_bare as is_bare_spec, repeats as repeats_spec, option_form as form_spec};
+ghost use Rattle.sccs_words.specs.Judge.{is_given_twice as is_given_twice_spec, known_fault as known_spec};
+ghost use Rattle.sccs_words.specs.Judge.{fault_by as use_spec, uses_fault as uses_spec, SameLetters};
+ghost use Rattle.sccs_words.specs.Judge.{is_dash as is_dash_spec, is_named as is_named_spec};
+ghost use Rattle.sccs_words.specs.Judge.{operand_fits as operand_fits_spec, is_late_dash as is_late_dash_spec};
+ghost use Rattle.sccs_words.specs.Judge.{dash_with_other as dash_with_other_spec, operand_fault as operand_spec};
+ghost use Rattle.sccs_words.specs.Judge.{operands_fault as operands_spec, wants as wants_spec, met as met_spec};
+ghost use Rattle.sccs_words.specs.Judge.{takes_one as takes_one_spec, too_many as too_many_spec};
+ghost use Rattle.sccs_words.specs.Judge.{none_though_wanted as none_though_wanted_spec, end_fault as end_spec};
+ghost use Rattle.sccs_words.specs.Judge.{usage_fault as first_spec};
 ghost use Rattle.std.specs.List.{list_any, list_all};
 ghost use Rattle.sccs_words.specs.Scan.{end_of};
 ghost use Rattle.sccs_words.specs.Scanned.{command_line};

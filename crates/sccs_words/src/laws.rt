@@ -29,7 +29,8 @@ pub fn numbers_of_words_do_not_matter()
 /// any words that are options and their values, the words `-abREST` and `-a -bREST`, with any words
 /// after them, are the same command, or have a fault of the same kind.
 pub fn joined_options_are_options_apart()
-    ensures { (utility : Utility) (name : List ℕ) (a b : ℕ) (rest : List ℕ) (before after : List (List ℕ)) (read : List Use)
+    ensures { (utility : Utility) (name : List ℕ) (a b : ℕ) (rest : List ℕ) (before after : List (List ℕ))
+        (read : List Use)
         → utility_of name ≡ Some utility
         → options_read (options_of utility) 2 [] None before ≡ Some (read, None)
         → find_option (options_of utility) a ≡ Some (Plain a) → b ≢ 45

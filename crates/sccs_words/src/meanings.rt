@@ -1,8 +1,12 @@
 ghost use Rattle.std.specs.Prelude.{◌≡◌, ◌+◌, ◌^◌, ◌<◌, ◌≤◌, length, option_and_then, IfOk, IfSome, Ok};
 ghost use Rattle.sccs_words.specs.Letters as opt;
 ghost use Rattle.sccs_words.specs.declared.commands.Command.TheVariants as commands;
-ghost use Rattle.sccs_words.specs.Meaning.{GivesCommand, meaning, first_text, with_name, with_sid, with_changes, with_number, own_utility, utility_of as utility_spec, line_command as command_spec, words_fault as refusal_spec, line_meaning as line_spec};
-ghost use Rattle.sccs_words.specs.Records.{value_of as value_spec, admin_words as admin_spec, get_words as get_spec, prs_words as prs_spec, operand_words as operands_spec};
+ghost use Rattle.sccs_words.specs.Meaning.{GivesCommand, meaning, first_text, with_name, with_sid, with_changes};
+ghost use Rattle.sccs_words.specs.Meaning.{with_number, own_utility, utility_of as utility_spec};
+ghost use Rattle.sccs_words.specs.Meaning.{line_command as command_spec, words_fault as refusal_spec};
+ghost use Rattle.sccs_words.specs.Meaning.{line_meaning as line_spec};
+ghost use Rattle.sccs_words.specs.Records.{value_of as value_spec, admin_words as admin_spec, get_words as get_spec};
+ghost use Rattle.sccs_words.specs.Records.{prs_words as prs_spec, operand_words as operands_spec};
 ghost use Rattle.sccs_words.specs.Scan.{end_of};
 ghost use Rattle.sccs_words.specs.Scanned.{command_line};
 ghost use Rattle.sccs_words.specs.ValidValues.{HasValidValues};
@@ -96,7 +100,8 @@ fn first_number(operands: &[Bytes]) -> Option<u64>
 }
 
 fn admin_of(alloc: Global, line: &CommandLine<'_>) -> Result<Command, WordsFault>
-    ensures value { GivesCommand result (Ok (commands.Admin (admin_spec line.now.uses.now) (operands_spec line.now.operands.now))) }
+    ensures value { GivesCommand result
+        (Ok (commands.Admin (admin_spec line.now.uses.now) (operands_spec line.now.operands.now))) }
     ensures valid { IfOk result HasValidValues }
 {
     let operands = operands_of(alloc, line.operands)?;
@@ -105,7 +110,8 @@ fn admin_of(alloc: Global, line: &CommandLine<'_>) -> Result<Command, WordsFault
 }
 
 fn get_of(alloc: Global, line: &CommandLine<'_>) -> Result<Command, WordsFault>
-    ensures value { GivesCommand result (Ok (commands.Get (get_spec line.now.uses.now) (operands_spec line.now.operands.now))) }
+    ensures value { GivesCommand result
+        (Ok (commands.Get (get_spec line.now.uses.now) (operands_spec line.now.operands.now))) }
     ensures valid { IfOk result HasValidValues }
 {
     let operands = operands_of(alloc, line.operands)?;
@@ -114,7 +120,8 @@ fn get_of(alloc: Global, line: &CommandLine<'_>) -> Result<Command, WordsFault>
 }
 
 fn prs_of(alloc: Global, line: &CommandLine<'_>) -> Result<Command, WordsFault>
-    ensures value { GivesCommand result (Ok (commands.Prs (prs_spec line.now.uses.now) (operands_spec line.now.operands.now))) }
+    ensures value { GivesCommand result
+        (Ok (commands.Prs (prs_spec line.now.uses.now) (operands_spec line.now.operands.now))) }
     ensures valid { IfOk result HasValidValues }
 {
     let operands = operands_of(alloc, line.operands)?;
@@ -123,7 +130,8 @@ fn prs_of(alloc: Global, line: &CommandLine<'_>) -> Result<Command, WordsFault>
 }
 
 fn delta_of(alloc: Global, line: &CommandLine<'_>) -> Result<Command, WordsFault>
-    ensures value { GivesCommand result (with_name line.now.uses.now (end_of (command_line line.now)) (option_and_then name_value (first_text line.now.operands.now))) }
+    ensures value { GivesCommand result (with_name line.now.uses.now (end_of (command_line line.now))
+        (option_and_then name_value (first_text line.now.operands.now))) }
     ensures valid { IfOk result HasValidValues }
 {
     match first_name(line.operands) {
@@ -139,7 +147,8 @@ fn delta_of(alloc: Global, line: &CommandLine<'_>) -> Result<Command, WordsFault
 }
 
 fn rmdel_of(alloc: Global, line: &CommandLine<'_>) -> Result<Command, WordsFault>
-    ensures value { GivesCommand result (with_sid line.now.operands.now (end_of (command_line line.now)) (option_and_then sid_spec (value_spec opt.r line.now.uses.now))) }
+    ensures value { GivesCommand result (with_sid line.now.operands.now (end_of (command_line line.now))
+        (option_and_then sid_spec (value_spec opt.r line.now.uses.now))) }
     ensures valid { IfOk result HasValidValues }
 {
     match sid_at(line.uses, b'r') {
@@ -155,7 +164,8 @@ fn rmdel_of(alloc: Global, line: &CommandLine<'_>) -> Result<Command, WordsFault
 }
 
 fn cdc_of(alloc: Global, line: &CommandLine<'_>) -> Result<Command, WordsFault>
-    ensures value { GivesCommand result (with_changes line.now.uses.now line.now.operands.now (end_of (command_line line.now)) (option_and_then sid_spec (value_spec opt.r line.now.uses.now))) }
+    ensures value { GivesCommand result (with_changes line.now.uses.now line.now.operands.now
+        (end_of (command_line line.now)) (option_and_then sid_spec (value_spec opt.r line.now.uses.now))) }
     ensures valid { IfOk result HasValidValues }
 {
     match sid_at(line.uses, b'r') {
@@ -172,7 +182,8 @@ fn cdc_of(alloc: Global, line: &CommandLine<'_>) -> Result<Command, WordsFault>
 }
 
 fn soak_of(line: &CommandLine<'_>) -> Result<Command, WordsFault>
-    ensures value { GivesCommand result (with_number (end_of (command_line line.now)) (option_and_then soak_spec (first_text line.now.operands.now))) }
+    ensures value { GivesCommand result (with_number (end_of (command_line line.now)) (option_and_then soak_spec
+        (first_text line.now.operands.now))) }
     ensures valid { IfOk result HasValidValues }
 {
     match first_number(line.operands) {
@@ -190,7 +201,8 @@ fn command_of(
     utility: Utility,
     line: &CommandLine<'_>,
 ) -> Result<Command, WordsFault>
-    ensures value { GivesCommand result (command_spec utility (command_line line.now) (end_of (command_line line.now))) }
+    ensures value { GivesCommand result (command_spec utility (command_line line.now)
+        (end_of (command_line line.now))) }
     ensures valid { IfOk result HasValidValues }
 {
     let uses = line.uses;

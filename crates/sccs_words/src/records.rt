@@ -5,8 +5,15 @@ ghost use Rattle.sccs_sid.specs.Spec.{IsSpec};
 ghost use Rattle.sccs_sid.specs.SidLists.{IsRange};
 ghost use Rattle.sccs_sid.specs.Moment.{IsMoment};
 ghost use Rattle.sccs_words.specs.ValidValues.{AreGetValues, ArePrsValues};
-ghost use Rattle.sccs_words.specs.Records.{value_in as value_in_spec, value_of as value_spec, values_of as values_spec, mrs_of, option_lines, given_of as given_spec, comment_of as comment_spec, get_words as get_spec, summary_of as summary_spec, delta_line_words as delta_spec, unget_words as unget_spec, cdc_words as cdc_spec, prs_words as prs_spec, admin_words as admin_spec, val_words as val_spec, operand_words as operands_spec, is_from_input as is_from_input_spec, is_option_fault, usage_bit as bit_spec};
-ghost use Rattle.sccs_words.specs.Values.{sid_value as sid_spec, spec_value as spec_spec, moment_value as moment_spec, list_value as list_spec, release_value as release_spec, name_value};
+ghost use Rattle.sccs_words.specs.Records.{value_in as value_in_spec, value_of as value_spec, values_of as values_spec};
+ghost use Rattle.sccs_words.specs.Records.{mrs_of, option_lines, given_of as given_spec, comment_of as comment_spec};
+ghost use Rattle.sccs_words.specs.Records.{get_words as get_spec, summary_of as summary_spec};
+ghost use Rattle.sccs_words.specs.Records.{delta_line_words as delta_spec, unget_words as unget_spec};
+ghost use Rattle.sccs_words.specs.Records.{cdc_words as cdc_spec, prs_words as prs_spec, admin_words as admin_spec};
+ghost use Rattle.sccs_words.specs.Records.{val_words as val_spec, operand_words as operands_spec};
+ghost use Rattle.sccs_words.specs.Records.{is_from_input as is_from_input_spec, is_option_fault, usage_bit as bit_spec};
+ghost use Rattle.sccs_words.specs.Values.{sid_value as sid_spec, spec_value as spec_spec, moment_value as moment_spec};
+ghost use Rattle.sccs_words.specs.Values.{list_value as list_spec, release_value as release_spec, name_value};
 ghost use Rattle.sccs_words.specs.Scanned.{command_line};
 
 use crate::command_lines::CommandLine;
@@ -353,7 +360,8 @@ fn bit(holds: bool, value: u8) -> u8
 
 // the bits of the faults of val's words
 fn val_fault(alloc: Global, line: &CommandLine<'_>) -> Result<u8, Memory>
-    ensures { IfOk result (λ r. r ≡ bit_spec (is_option_fault (command_line line.now)) 64 + bit_spec (is_empty line.now.operands.now) 128) }
+    ensures { IfOk result (λ r. r ≡ bit_spec (is_option_fault (command_line line.now)) 64 + bit_spec
+        (is_empty line.now.operands.now) 128) }
 {
     let option = bit(has_option_fault(alloc, line)?, OPTION_FAULT);
     let none = bit(line.operands.is_empty(), NO_OPERAND_BIT);

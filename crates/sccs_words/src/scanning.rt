@@ -1,6 +1,7 @@
 ghost use Rattle.std.specs.Prelude.{◌≡◌, ℕ, ◌+◌, ◌^◌, ◌<◌, ◌≤◌, List, [], None, length, drop, IfOk};
 ghost use Rattle.sccs_words.specs.Synopsis.{find_option as find_option_spec};
-ghost use Rattle.sccs_words.specs.Scan.{turn as turn_spec, letters as letters_spec, scanned, word_kind, in_word as in_word_spec, in_next as in_next_spec};
+ghost use Rattle.sccs_words.specs.Scan.{turn as turn_spec, letters as letters_spec, scanned, word_kind};
+ghost use Rattle.sccs_words.specs.Scan.{in_word as in_word_spec, in_next as in_next_spec};
 ghost use Rattle.sccs_words.specs.Scanned.{kind_view, line_view};
 
 use crate::tables::OptionSpec;

@@ -4,7 +4,10 @@ ghost use Rattle.sccs_sid.specs.Spec.{IsSpec};
 ghost use Rattle.sccs_sid.specs.SidLists.{IsRange};
 ghost use Rattle.sccs_sid.specs.Moment.{IsMoment};
 ghost use Rattle.sccs_words.specs.MrWords.{is_gap as is_gap_spec, ended_word, split_from, mr_words as mr_words_spec};
-ghost use Rattle.sccs_words.specs.Values.{sid_value as sid_spec, spec_value as spec_spec, moment_value as moment_spec, list_value as list_spec, release_value as release_spec, soak_number as soak_spec, number_value as number_spec, is_user as is_user_spec, value_fits};
+ghost use Rattle.sccs_words.specs.Values.{sid_value as sid_spec, spec_value as spec_spec, moment_value as moment_spec};
+ghost use Rattle.sccs_words.specs.Values.{list_value as list_spec, release_value as release_spec};
+ghost use Rattle.sccs_words.specs.Values.{soak_number as soak_spec, number_value as number_spec};
+ghost use Rattle.sccs_words.specs.Values.{is_user as is_user_spec, value_fits};
 
 use crate::tables::Form;
 use sccs_base::{Bytes, Login, Memory, Name, Words};

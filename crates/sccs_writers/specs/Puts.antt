@@ -28,7 +28,8 @@ pub record Puts (bytes : List ℕ) (w w2 : Writer) (old new : Told) : Type 0 whe
 
 -- A call that puts a text: all of it, or a failing disk or want of memory came between. At every exit at most the
 -- writer's file is another.
-pub record PutsText {T : Type 0} (text : List ℕ) (w w2 : Writer) (old new : Told) (faults faults_after : ℕ) (result : Result T DiskRefusal) : Type 0 where
+pub record PutsText {T : Type 0} (text : List ℕ) (w w2 : Writer) (old new : Told) (faults faults_after : ℕ)
+    (result : Result T DiskRefusal) : Type 0 where
   pub ok : OnOk result (Puts text w w2 old new)
   pub name : w2.name ≡ w.name
   pub only : OnlyWrites w.name old new

@@ -1,10 +1,12 @@
 ghost use Rattle.std.specs.Prelude.{◌≡◌, ◌≤◌, ◌++◌, ℕ, List, [], ◌∷◌, decimal, flat_map, OnOk};
 ghost use Rattle.std.specs.List.{AllByRecursion};
 ghost use Rattle.sccs_disk.specs.Calls.{IsThere};
-ghost use Rattle.sccs_tokens.specs.Written.{behind_blank, bytes_of, counts_line, delta_line, ended, kind_of, list_lines, mr_line};
+ghost use Rattle.sccs_tokens.specs.Written.{behind_blank, bytes_of, counts_line, delta_line, ended, kind_of};
+ghost use Rattle.sccs_tokens.specs.Written.{list_lines, mr_line};
 ghost use Rattle.sccs_history.specs.History.{HasSpelling, IsSpelled};
 ghost use Rattle.sccs_sid.specs.Sid.{sid_text};
-ghost use Rattle.sccs_writers.specs.HeaderBytes.{WritesHeader, entry_bytes, flags_bytes, header_bytes, lists_bytes, table_bytes, texts_bytes};
+ghost use Rattle.sccs_writers.specs.HeaderBytes.{WritesHeader, entry_bytes, flags_bytes, header_bytes, lists_bytes};
+ghost use Rattle.sccs_writers.specs.HeaderBytes.{table_bytes, texts_bytes};
 ghost use Rattle.sccs_writers.specs.Puts.{PutsText};
 
 use crate::digits::five_digits;
@@ -25,7 +27,8 @@ fn put_counts<D: Disk>(
     disk: &mut D,
 ) -> Result<(), DiskRefusal>
     requires { IsThere out.old.name (D.told disk.old) }
-    ensures { PutsText (1 ∷ 115 ∷ 32 ∷ inserted.now ++ (47 ∷ deleted.now ++ (47 ∷ unchanged.now ++ (10 ∷ [])))) out.old out.new (D.told disk.old) (D.told disk.new)
+    ensures { PutsText (1 ∷ 115 ∷ 32 ∷ inserted.now ++ (47 ∷ deleted.now ++ (47 ∷ unchanged.now ++ (10 ∷ [])))) out.old
+        out.new (D.told disk.old) (D.told disk.new)
         (D.faults disk.old) (D.faults disk.new) result }
 {
     out.put_parts(
@@ -72,7 +75,8 @@ fn put_mark<D: Disk>(
     disk: &mut D,
 ) -> Result<(), DiskRefusal>
     requires { IsThere out.old.name (D.told disk.old) }
-    ensures { PutsText (mark.now ++ (behind_blank text.now ++ (10 ∷ []))) out.old out.new (D.told disk.old) (D.told disk.new)
+    ensures { PutsText (mark.now ++ (behind_blank text.now ++ (10 ∷ []))) out.old out.new (D.told disk.old)
+        (D.told disk.new)
         (D.faults disk.old) (D.faults disk.new) result }
 {
     if text.is_empty() {
@@ -89,7 +93,8 @@ fn put_lines<D: Disk>(
     disk: &mut D,
 ) -> Result<(), DiskRefusal>
     requires { IsThere out.old.name (D.told disk.old) }
-    ensures { PutsText (flat_map (λ line. ended (front.now ++ line)) lines.now) out.old out.new (D.told disk.old) (D.told disk.new)
+    ensures { PutsText (flat_map (λ line. ended (front.now ++ line)) lines.now) out.old out.new (D.told disk.old)
+        (D.told disk.new)
         (D.faults disk.old) (D.faults disk.new) result }
 {
     for line in lines.items() {
@@ -127,7 +132,10 @@ fn put_delta_words<D: Disk>(
     disk: &mut D,
 ) -> Result<(), DiskRefusal>
     requires { IsThere out.old.name (D.told disk.old) }
-    ensures { PutsText (32 ∷ (moment.now ++ (32 ∷ (entry.now.login ++ (32 ∷ (decimal entry.now.serial ++ (32 ∷ (decimal entry.now.predecessor ++ (10 ∷ []))))))))) out.old out.new (D.told disk.old) (D.told disk.new)
+    ensures { PutsText (32 ∷ (moment.now
+        ++ (32 ∷ (entry.now.login
+        ++ (32 ∷ (decimal entry.now.serial ++ (32 ∷ (decimal entry.now.predecessor ++ (10 ∷ []))))))))) out.old out.new
+        (D.told disk.old) (D.told disk.new)
         (D.faults disk.old) (D.faults disk.new) result }
 {
     let (mut serial, mut predecessor) = (Buffer::new(), Buffer::new());
@@ -223,7 +231,8 @@ fn put_statistics<D: Disk>(
     disk: &mut D,
 ) -> Result<(), DiskRefusal>
     requires { IsThere out.old.name (D.told disk.old) }
-    ensures { PutsText (ended (counts_line entry.now.inserted entry.now.deleted entry.now.unchanged)) out.old out.new (D.told disk.old) (D.told disk.new)
+    ensures { PutsText (ended (counts_line entry.now.inserted entry.now.deleted entry.now.unchanged)) out.old out.new
+        (D.told disk.old) (D.told disk.new)
         (D.faults disk.old) (D.faults disk.new) result }
 {
     put_counts(
@@ -299,7 +308,8 @@ fn put_part<D: Disk>(
     disk: &mut D,
 ) -> Result<(), DiskRefusal>
     requires { IsThere out.old.name (D.told disk.old) }
-    ensures { PutsText (first.now ++ (flat_map ended lines.now ++ last.now)) out.old out.new (D.told disk.old) (D.told disk.new)
+    ensures { PutsText (first.now ++ (flat_map ended lines.now ++ last.now)) out.old out.new (D.told disk.old)
+        (D.told disk.new)
         (D.faults disk.old) (D.faults disk.new) result }
 {
     out.put(first, disk)?;

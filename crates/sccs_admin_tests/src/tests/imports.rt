@@ -5,12 +5,16 @@ use std::alloc::Global;
 use std::test::Fail;
 
 // a trunk whose second script reads past the text
-const FAILING: &[u8] =
-    b"head\t1.2;\naccess;\nsymbols;\nlocks; strict;\ncomment\t@# @;\n\n\n1.2\ndate\t2021.03.04.05.08.00;\tauthor ann;\tstate Exp;\nbranches;\nnext\t1.1;\n\n1.1\ndate\t2021.03.04.05.06.07;\tauthor ann;\tstate Exp;\nbranches;\nnext\t;\n\n\ndesc\n@@\n\n\n1.2\nlog\n@second\n@\ntext\n@one\nmid\ntwo\n@\n\n\n1.1\nlog\n@first\n@\ntext\n@d4 1\n@\n";
+const FAILING: &[u8] = b"head\t1.2;\naccess;\nsymbols;\nlocks; strict;\ncomment\t@# @;\n\n\n1.2\n\
+        date\t2021.03.04.05.08.00;\tauthor ann;\tstate Exp;\nbranches;\nnext\t1.1;\n\n1.1\n\
+        date\t2021.03.04.05.06.07;\tauthor ann;\tstate Exp;\nbranches;\nnext\t;\n\n\ndesc\n@@\n\n\n1.2\nlog\n@second\n\
+        @\ntext\n@one\nmid\ntwo\n@\n\n\n1.1\nlog\n@first\n@\ntext\n@d4 1\n@\n";
 
 // a trunk that goes round
-const UNFIT: &[u8] =
-    b"head\t1.2;\naccess;\nsymbols;\nlocks; strict;\ncomment\t@# @;\n\n\n1.2\ndate\t2021.03.04.05.08.00;\tauthor ann;\tstate Exp;\nbranches;\nnext\t1.1;\n\n1.1\ndate\t2021.03.04.05.06.07;\tauthor ann;\tstate Exp;\nbranches;\nnext\t1.1;\n\n\ndesc\n@@\n\n\n1.2\nlog\n@second\n@\ntext\n@one\nmid\ntwo\n@\n\n\n1.1\nlog\n@first\n@\ntext\n@d2 1\n@\n";
+const UNFIT: &[u8] = b"head\t1.2;\naccess;\nsymbols;\nlocks; strict;\ncomment\t@# @;\n\n\n1.2\n\
+        date\t2021.03.04.05.08.00;\tauthor ann;\tstate Exp;\nbranches;\nnext\t1.1;\n\n1.1\n\
+        date\t2021.03.04.05.06.07;\tauthor ann;\tstate Exp;\nbranches;\nnext\t1.1;\n\n\ndesc\n@@\n\n\n1.2\nlog\n\
+        @second\n@\ntext\n@one\nmid\ntwo\n@\n\n\n1.1\nlog\n@first\n@\ntext\n@d2 1\n@\n";
 
 // two RCS files that can be imported, and others that can't: one whose script fails, one whose trunk goes round, an
 // empty one, one beside an s-file, and one of a name that is locked

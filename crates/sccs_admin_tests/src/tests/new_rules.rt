@@ -5,11 +5,15 @@ use std::test::Fail;
 
 // two lines with users, flags, a description and two MRs
 const WITH_ALL: &[u8] =
-    b"\x01h11479\n\x01s 00002/00000/00000\n\x01d D 1.1 21/03/04 05:06:07 ann 1 0\n\x01m 7\n\x01m 8\n\x01c date and time created 21/03/04 05:06:07 by ann\n\x01e\n\x01u\nbob\n!carl\n\x01U\n\x01f v\n\x01f m prog\n\x01f i\n\x01t\nwhat it is\n\x01T\n\x01I 1\none\ntwo %I%\n\x01E 1\n";
+    b"\x01h11479\n\x01s 00002/00000/00000\n\x01d D 1.1 21/03/04 05:06:07 ann 1 0\n\x01m 7\n\x01m 8\n\
+        \x01c date and time created 21/03/04 05:06:07 by ann\n\x01e\n\x01u\nbob\n!carl\n\x01U\n\x01f v\n\x01f m prog\n\
+        \x01f i\n\x01t\nwhat it is\n\x01T\n\x01I 1\none\ntwo %I%\n\x01E 1\n";
 
 // no line, with a user and a flag
 const WITH_USER: &[u8] =
-    b"\x01h07787\n\x01s 00000/00000/00000\n\x01d D 1.1 21/03/04 05:06:07 ann 1 0\n\x01c date and time created 21/03/04 05:06:07 by ann\n\x01e\n\x01u\nbob\n\x01U\n\x01f b\n\x01t\n\x01T\n\x01I 1\n\x01E 1\n";
+    b"\x01h07787\n\x01s 00000/00000/00000\n\x01d D 1.1 21/03/04 05:06:07 ann 1 0\n\
+        \x01c date and time created 21/03/04 05:06:07 by ann\n\x01e\n\x01u\nbob\n\x01U\n\x01f b\n\x01t\n\x01T\n\
+        \x01I 1\n\x01E 1\n";
 
 // the files of the name a, of which only the s-file may be there
 fn only<'a>(s_file: Option<&'a [u8]>) -> [File<'a>; 3] {

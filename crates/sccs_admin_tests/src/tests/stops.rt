@@ -40,19 +40,30 @@ const LEFT: &[u8] = b"1.1 1.1.1.1 ann 21/03/04 05:09:00\n";
 
 // the two deltas with a user and a flag
 const WITH_USER: &[u8] =
-    b"\x01h12946\n\x01s 00001/00000/00002\n\x01d D 1.2 21/03/04 05:08:00 ann 2 1\n\x01c second\n\x01e\n\x01s 00002/00000/00000\n\x01d D 1.1 21/03/04 05:06:07 ann 1 0\n\x01c date and time created 21/03/04 05:06:07 by ann\n\x01e\n\x01u\nbob\n\x01U\n\x01f b\n\x01t\n\x01T\n\x01I 1\none\n\x01I 2\nmid\n\x01E 2\ntwo %I%\n\x01E 1\n";
+    b"\x01h12946\n\x01s 00001/00000/00002\n\x01d D 1.2 21/03/04 05:08:00 ann 2 1\n\x01c second\n\x01e\n\
+        \x01s 00002/00000/00000\n\x01d D 1.1 21/03/04 05:06:07 ann 1 0\n\
+        \x01c date and time created 21/03/04 05:06:07 by ann\n\x01e\n\x01u\nbob\n\x01U\n\x01f b\n\x01t\n\x01T\n\
+        \x01I 1\none\n\x01I 2\nmid\n\x01E 2\ntwo %I%\n\x01E 1\n";
 
 // the two deltas with a description
 const DESCRIBED: &[u8] =
-    b"\x01h12849\n\x01s 00001/00000/00002\n\x01d D 1.2 21/03/04 05:08:00 ann 2 1\n\x01c second\n\x01e\n\x01s 00002/00000/00000\n\x01d D 1.1 21/03/04 05:06:07 ann 1 0\n\x01c date and time created 21/03/04 05:06:07 by ann\n\x01e\n\x01u\n\x01U\n\x01t\ntext\n\x01T\n\x01I 1\none\n\x01I 2\nmid\n\x01E 2\ntwo %I%\n\x01E 1\n";
+    b"\x01h12849\n\x01s 00001/00000/00002\n\x01d D 1.2 21/03/04 05:08:00 ann 2 1\n\x01c second\n\x01e\n\
+        \x01s 00002/00000/00000\n\x01d D 1.1 21/03/04 05:06:07 ann 1 0\n\
+        \x01c date and time created 21/03/04 05:06:07 by ann\n\x01e\n\x01u\n\x01U\n\x01t\ntext\n\x01T\n\x01I 1\none\n\
+        \x01I 2\nmid\n\x01E 2\ntwo %I%\n\x01E 1\n";
 
 // a new file with a user, two flags and an MR
 const WITH_ALL: &[u8] =
-    b"\x01h09126\n\x01s 00002/00000/00000\n\x01d D 1.1 21/03/04 05:06:07 ann 1 0\n\x01m 7\n\x01c date and time created 21/03/04 05:06:07 by ann\n\x01e\n\x01u\nbob\n\x01U\n\x01f b\n\x01f v\n\x01t\n\x01T\n\x01I 1\none\ntwo %I%\n\x01E 1\n";
+    b"\x01h09126\n\x01s 00002/00000/00000\n\x01d D 1.1 21/03/04 05:06:07 ann 1 0\n\x01m 7\n\
+        \x01c date and time created 21/03/04 05:06:07 by ann\n\x01e\n\x01u\nbob\n\x01U\n\x01f b\n\x01f v\n\x01t\n\
+        \x01T\n\x01I 1\none\ntwo %I%\n\x01E 1\n";
 
 // the two deltas with another comment of the second
 const THIRD: &[u8] =
-    b"\x01h15231\n\x01s 00001/00000/00002\n\x01d D 1.2 21/03/04 05:08:00 ann 2 1\n\x01c third\n\x01c *** CHANGED *** 21/03/04 05:11:00 ann\n\x01c second\n\x01e\n\x01s 00002/00000/00000\n\x01d D 1.1 21/03/04 05:06:07 ann 1 0\n\x01c date and time created 21/03/04 05:06:07 by ann\n\x01e\n\x01u\n\x01U\n\x01t\n\x01T\n\x01I 1\none\n\x01I 2\nmid\n\x01E 2\ntwo %I%\n\x01E 1\n";
+    b"\x01h15231\n\x01s 00001/00000/00002\n\x01d D 1.2 21/03/04 05:08:00 ann 2 1\n\x01c third\n\
+        \x01c *** CHANGED *** 21/03/04 05:11:00 ann\n\x01c second\n\x01e\n\x01s 00002/00000/00000\n\
+        \x01d D 1.1 21/03/04 05:06:07 ann 1 0\n\x01c date and time created 21/03/04 05:06:07 by ann\n\x01e\n\x01u\n\
+        \x01U\n\x01t\n\x01T\n\x01I 1\none\n\x01I 2\nmid\n\x01E 2\ntwo %I%\n\x01E 1\n";
 
 const STOPS: [Stop<'static>; 12] = [
     Stop {

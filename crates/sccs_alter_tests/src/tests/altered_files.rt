@@ -6,23 +6,33 @@ use std::test::Fail;
 
 // the two lines with a user and two flags
 const WITH_RULES: &[u8] =
-    b"\x01h09382\n\x01s 00002/00000/00000\n\x01d D 1.1 21/03/04 05:06:07 ann 1 0\n\x01c date and time created 21/03/04 05:06:07 by ann\n\x01e\n\x01u\nbob\n\x01U\n\x01f b\n\x01f m prog\n\x01t\n\x01T\n\x01I 1\none\ntwo %I%\n\x01E 1\n";
+    b"\x01h09382\n\x01s 00002/00000/00000\n\x01d D 1.1 21/03/04 05:06:07 ann 1 0\n\
+        \x01c date and time created 21/03/04 05:06:07 by ann\n\x01e\n\x01u\nbob\n\x01U\n\x01f b\n\x01f m prog\n\x01t\n\
+        \x01T\n\x01I 1\none\ntwo %I%\n\x01E 1\n";
 
 // with one flag
 const BRANCHING: &[u8] =
-    b"\x01h08339\n\x01s 00002/00000/00000\n\x01d D 1.1 21/03/04 05:06:07 ann 1 0\n\x01c date and time created 21/03/04 05:06:07 by ann\n\x01e\n\x01u\n\x01U\n\x01f b\n\x01t\n\x01T\n\x01I 1\none\ntwo %I%\n\x01E 1\n";
+    b"\x01h08339\n\x01s 00002/00000/00000\n\x01d D 1.1 21/03/04 05:06:07 ann 1 0\n\
+        \x01c date and time created 21/03/04 05:06:07 by ann\n\x01e\n\x01u\n\x01U\n\x01f b\n\x01t\n\x01T\n\x01I 1\n\
+        one\ntwo %I%\n\x01E 1\n";
 
 // with a description
 const DESCRIBED: &[u8] =
-    b"\x01h09047\n\x01s 00002/00000/00000\n\x01d D 1.1 21/03/04 05:06:07 ann 1 0\n\x01c date and time created 21/03/04 05:06:07 by ann\n\x01e\n\x01u\n\x01U\n\x01t\nwhat it is\n\x01T\n\x01I 1\none\ntwo %I%\n\x01E 1\n";
+    b"\x01h09047\n\x01s 00002/00000/00000\n\x01d D 1.1 21/03/04 05:06:07 ann 1 0\n\
+        \x01c date and time created 21/03/04 05:06:07 by ann\n\x01e\n\x01u\n\x01U\n\x01t\nwhat it is\n\x01T\n\x01I 1\n\
+        one\ntwo %I%\n\x01E 1\n";
 
 // with releases 1 and 3 locked
 const LOCKED: &[u8] =
-    b"\x01h08525\n\x01s 00002/00000/00000\n\x01d D 1.1 21/03/04 05:06:07 ann 1 0\n\x01c date and time created 21/03/04 05:06:07 by ann\n\x01e\n\x01u\n\x01U\n\x01f l 1,3\n\x01t\n\x01T\n\x01I 1\none\ntwo %I%\n\x01E 1\n";
+    b"\x01h08525\n\x01s 00002/00000/00000\n\x01d D 1.1 21/03/04 05:06:07 ann 1 0\n\
+        \x01c date and time created 21/03/04 05:06:07 by ann\n\x01e\n\x01u\n\x01U\n\x01f l 1,3\n\x01t\n\x01T\n\x01I 1\n\
+        one\ntwo %I%\n\x01E 1\n";
 
 // with all releases locked
 const ALL_LOCKED: &[u8] =
-    b"\x01h08478\n\x01s 00002/00000/00000\n\x01d D 1.1 21/03/04 05:06:07 ann 1 0\n\x01c date and time created 21/03/04 05:06:07 by ann\n\x01e\n\x01u\n\x01U\n\x01f l a\n\x01t\n\x01T\n\x01I 1\none\ntwo %I%\n\x01E 1\n";
+    b"\x01h08478\n\x01s 00002/00000/00000\n\x01d D 1.1 21/03/04 05:06:07 ann 1 0\n\
+        \x01c date and time created 21/03/04 05:06:07 by ann\n\x01e\n\x01u\n\x01U\n\x01f l a\n\x01t\n\x01T\n\x01I 1\n\
+        one\ntwo %I%\n\x01E 1\n";
 
 // words, the message, and the s-file that they leave
 #[derive(Clone, Copy)]

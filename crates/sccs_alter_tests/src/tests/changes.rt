@@ -6,23 +6,39 @@ use std::test::Fail;
 
 // SECOND with another comment of the second delta
 const THIRD: &[u8] =
-    b"\x01h15231\n\x01s 00001/00000/00002\n\x01d D 1.2 21/03/04 05:08:00 ann 2 1\n\x01c third\n\x01c *** CHANGED *** 21/03/04 05:11:00 ann\n\x01c second\n\x01e\n\x01s 00002/00000/00000\n\x01d D 1.1 21/03/04 05:06:07 ann 1 0\n\x01c date and time created 21/03/04 05:06:07 by ann\n\x01e\n\x01u\n\x01U\n\x01t\n\x01T\n\x01I 1\none\n\x01I 2\nmid\n\x01E 2\ntwo %I%\n\x01E 1\n";
+    b"\x01h15231\n\x01s 00001/00000/00002\n\x01d D 1.2 21/03/04 05:08:00 ann 2 1\n\x01c third\n\
+        \x01c *** CHANGED *** 21/03/04 05:11:00 ann\n\x01c second\n\x01e\n\x01s 00002/00000/00000\n\
+        \x01d D 1.1 21/03/04 05:06:07 ann 1 0\n\x01c date and time created 21/03/04 05:06:07 by ann\n\x01e\n\x01u\n\
+        \x01U\n\x01t\n\x01T\n\x01I 1\none\n\x01I 2\nmid\n\x01E 2\ntwo %I%\n\x01E 1\n";
 
 // SECOND with two MRs of the second delta
 const WITH_MRS: &[u8] =
-    b"\x01h13270\n\x01s 00001/00000/00002\n\x01d D 1.2 21/03/04 05:08:00 ann 2 1\n\x01m m1\n\x01m m2\n\x01c second\n\x01e\n\x01s 00002/00000/00000\n\x01d D 1.1 21/03/04 05:06:07 ann 1 0\n\x01c date and time created 21/03/04 05:06:07 by ann\n\x01e\n\x01u\n\x01U\n\x01f v\n\x01t\n\x01T\n\x01I 1\none\n\x01I 2\nmid\n\x01E 2\ntwo %I%\n\x01E 1\n";
+    b"\x01h13270\n\x01s 00001/00000/00002\n\x01d D 1.2 21/03/04 05:08:00 ann 2 1\n\x01m m1\n\x01m m2\n\x01c second\n\
+        \x01e\n\x01s 00002/00000/00000\n\x01d D 1.1 21/03/04 05:06:07 ann 1 0\n\
+        \x01c date and time created 21/03/04 05:06:07 by ann\n\x01e\n\x01u\n\x01U\n\x01f v\n\x01t\n\x01T\n\x01I 1\n\
+        one\n\x01I 2\nmid\n\x01E 2\ntwo %I%\n\x01E 1\n";
 
 // the same without the first of them, and with another one
 const OTHER_MRS: &[u8] =
-    b"\x01h16920\n\x01s 00001/00000/00002\n\x01d D 1.2 21/03/04 05:08:00 ann 2 1\n\x01m m2\n\x01m m3\n\x01c \n\x01c *** DELETED MR *** m1\n\x01c *** CHANGED *** 21/03/04 05:11:00 ann\n\x01c second\n\x01e\n\x01s 00002/00000/00000\n\x01d D 1.1 21/03/04 05:06:07 ann 1 0\n\x01c date and time created 21/03/04 05:06:07 by ann\n\x01e\n\x01u\n\x01U\n\x01f v\n\x01t\n\x01T\n\x01I 1\none\n\x01I 2\nmid\n\x01E 2\ntwo %I%\n\x01E 1\n";
+    b"\x01h16920\n\x01s 00001/00000/00002\n\x01d D 1.2 21/03/04 05:08:00 ann 2 1\n\x01m m2\n\x01m m3\n\x01c \n\
+        \x01c *** DELETED MR *** m1\n\x01c *** CHANGED *** 21/03/04 05:11:00 ann\n\x01c second\n\x01e\n\
+        \x01s 00002/00000/00000\n\x01d D 1.1 21/03/04 05:06:07 ann 1 0\n\
+        \x01c date and time created 21/03/04 05:06:07 by ann\n\x01e\n\x01u\n\x01U\n\x01f v\n\x01t\n\x01T\n\x01I 1\n\
+        one\n\x01I 2\nmid\n\x01E 2\ntwo %I%\n\x01E 1\n";
 
 // the same with a third one
 const MORE_MRS: &[u8] =
-    b"\x01h13582\n\x01s 00001/00000/00002\n\x01d D 1.2 21/03/04 05:08:00 ann 2 1\n\x01m m1\n\x01m m2\n\x01m m3\n\x01c second\n\x01e\n\x01s 00002/00000/00000\n\x01d D 1.1 21/03/04 05:06:07 ann 1 0\n\x01c date and time created 21/03/04 05:06:07 by ann\n\x01e\n\x01u\n\x01U\n\x01f v\n\x01t\n\x01T\n\x01I 1\none\n\x01I 2\nmid\n\x01E 2\ntwo %I%\n\x01E 1\n";
+    b"\x01h13582\n\x01s 00001/00000/00002\n\x01d D 1.2 21/03/04 05:08:00 ann 2 1\n\x01m m1\n\x01m m2\n\x01m m3\n\
+        \x01c second\n\x01e\n\x01s 00002/00000/00000\n\x01d D 1.1 21/03/04 05:06:07 ann 1 0\n\
+        \x01c date and time created 21/03/04 05:06:07 by ann\n\x01e\n\x01u\n\x01U\n\x01f v\n\x01t\n\x01T\n\x01I 1\n\
+        one\n\x01I 2\nmid\n\x01E 2\ntwo %I%\n\x01E 1\n";
 
 // BRANCHED with a flag v that names a program
 const NAMED: &[u8] =
-    b"\x01h13738\n\x01s 00001/00000/00002\n\x01d D 1.1.1.1 99/12/31 23:59:59 bob 3 1\n\x01c\n\x01e\n\x01s 00001/00001/00001\n\x01d D 1.2 75/03/01 00:00:00 ann 2 1\n\x01c two\n\x01e\n\x01s 00002/00000/00000\n\x01d D 1.1 75/02/28 23:59:59 ann 1 0\n\x01c one\n\x01e\n\x01u\nann\nbob\n\x01U\n\x01f e 0\n\x01f v prog\n\x01t\n\x01T\n\x01I 1\na\n\x01D 2\nb\n\x01E 2\n\x01I 2\nB\n\x01E 2\n\x01I 3\nc\n\x01E 3\n\x01E 1\n";
+    b"\x01h13738\n\x01s 00001/00000/00002\n\x01d D 1.1.1.1 99/12/31 23:59:59 bob 3 1\n\x01c\n\x01e\n\
+        \x01s 00001/00001/00001\n\x01d D 1.2 75/03/01 00:00:00 ann 2 1\n\x01c two\n\x01e\n\x01s 00002/00000/00000\n\
+        \x01d D 1.1 75/02/28 23:59:59 ann 1 0\n\x01c one\n\x01e\n\x01u\nann\nbob\n\x01U\n\x01f e 0\n\x01f v prog\n\
+        \x01t\n\x01T\n\x01I 1\na\n\x01D 2\nb\n\x01E 2\n\x01I 2\nB\n\x01E 2\n\x01I 3\nc\n\x01E 3\n\x01E 1\n";
 
 const ENTRY: &[u8] = b"1.2 1.3 ann 21/03/04 05:09:00\n";
 

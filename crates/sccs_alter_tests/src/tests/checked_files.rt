@@ -8,7 +8,9 @@ use std::test::Fail;
 
 // the two lines under a wrong sum
 const WRONG_SUM: &[u8] =
-    b"\x01h00000\n\x01s 00002/00000/00000\n\x01d D 1.1 21/03/04 05:06:07 ann 1 0\n\x01c date and time created 21/03/04 05:06:07 by ann\n\x01e\n\x01u\n\x01U\n\x01t\n\x01T\n\x01I 1\none\ntwo %I%\n\x01E 1\n";
+    b"\x01h00000\n\x01s 00002/00000/00000\n\x01d D 1.1 21/03/04 05:06:07 ann 1 0\n\
+        \x01c date and time created 21/03/04 05:06:07 by ann\n\x01e\n\x01u\n\x01U\n\x01t\n\x01T\n\x01I 1\none\n\
+        two %I%\n\x01E 1\n";
 
 // one that is right, one with a wrong sum, and one that is none; the first is locked
 const FILES: [File<'static>; 4] = [
@@ -135,7 +137,9 @@ fn wrong_sums_are_mended(rt: HostRuntime) -> Result<(), Fail> {
 
 // with -z the file's other faults are found
 const BAD_LINE: &[u8] =
-    b"\x01h00000\n\x01s 00002/00000/00000\n\x01d D 1.1 21/03/04 05:06:07 ann 1 0\n\x01c date and time created 21/03/04 05:06:07 by ann\n\x01e\n\x01u\n\x01U\n\x01t\n\x01T\n\x01I 1\none\ntwo %I%\n\x01E 2\n";
+    b"\x01h00000\n\x01s 00002/00000/00000\n\x01d D 1.1 21/03/04 05:06:07 ann 1 0\n\
+        \x01c date and time created 21/03/04 05:06:07 by ann\n\x01e\n\x01u\n\x01U\n\x01t\n\x01T\n\x01I 1\none\n\
+        two %I%\n\x01E 2\n";
 
 const BAD_FILE: [File<'static>; 1] = [File {
     name: b"s.a",

@@ -6,7 +6,10 @@ use std::test::Fail;
 
 // BRANCHED without the second delta, which deleted a line
 const UNDONE: &[u8] =
-    b"\x01h12322\n\x01s 00001/00000/00002\n\x01d D 1.1.1.1 99/12/31 23:59:59 bob 3 1\n\x01c \n\x01e\n\x01s 00001/00001/00001\n\x01d R 1.2 75/03/01 00:00:00 ann 2 1\n\x01c two\n\x01e\n\x01s 00002/00000/00000\n\x01d D 1.1 75/02/28 23:59:59 ann 1 0\n\x01c one\n\x01e\n\x01u\nann\nbob\n\x01U\n\x01f e 0\n\x01t\n\x01T\n\x01I 1\na\nb\n\x01I 3\nc\n\x01E 3\n\x01E 1\n";
+    b"\x01h12322\n\x01s 00001/00000/00002\n\x01d D 1.1.1.1 99/12/31 23:59:59 bob 3 1\n\x01c \n\x01e\n\
+        \x01s 00001/00001/00001\n\x01d R 1.2 75/03/01 00:00:00 ann 2 1\n\x01c two\n\x01e\n\x01s 00002/00000/00000\n\
+        \x01d D 1.1 75/02/28 23:59:59 ann 1 0\n\x01c one\n\x01e\n\x01u\nann\nbob\n\x01U\n\x01f e 0\n\x01t\n\x01T\n\
+        \x01I 1\na\nb\n\x01I 3\nc\n\x01E 3\n\x01E 1\n";
 
 // the s-file and the p-file of the name a, of which no other is there
 fn files_of<'a>(s_file: &'a [u8], p_file: Option<&'a [u8]>) -> [File<'a>; 5] {

@@ -95,7 +95,8 @@ const WELL: [Case<'static>; 4] = [
     // each entry has its input, its moment and its login
     Case {
         line: b"batch",
-        input: b"@ 21/03/04 05:06:07 ann 3 2\nadmin\n-i\ns.a\none\ntwo\n@ 21/03/05 00:00:00 bob 3 1\nadmin\n-i\ns.b\nthree\n\
+        input: b"@ 21/03/04 05:06:07 ann 3 2\nadmin\n-i\ns.a\none\ntwo\n\
+@ 21/03/05 00:00:00 bob 3 1\nadmin\n-i\ns.b\nthree\n\
 @ 21/03/04 05:07:00 ann 3 0\nprs\n-d:I: :P: :D: :Li:\n.",
         out: b"= 0\n= 0\n1.1 ann 21/03/04 00002\n1.1 bob 21/03/05 00001\n= 0\n",
         ..CASE

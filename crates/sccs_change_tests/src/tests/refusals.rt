@@ -211,7 +211,8 @@ fn flags_are_heeded(rt: HostRuntime) -> Result<(), Fail> {
 
 // one delta, with the last serial
 const LAST: &[u8] =
-    b"\x01h00000\n\x01s 00000/00000/00000\n\x01d D 1.1 21/03/04 05:06:07 ann 65535 0\n\x01c\n\x01e\n\x01u\n\x01U\n\x01t\n\x01T\n\x01I 65535\n\x01E 65535\n";
+    b"\x01h00000\n\x01s 00000/00000/00000\n\x01d D 1.1 21/03/04 05:06:07 ann 65535 0\n\x01c\n\x01e\n\x01u\n\x01U\n\
+        \x01t\n\x01T\n\x01I 65535\n\x01E 65535\n";
 
 #[test]
 fn serials_end(rt: HostRuntime) -> Result<(), Fail> {

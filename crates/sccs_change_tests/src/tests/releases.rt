@@ -51,7 +51,8 @@ const LEFT_OUT: [Case<'static>; 1] = [Case {
     ..CASE
 }];
 
-// whether a delta that passes over releases on a disk, behind some cases, leaves these texts in the s-file, and other cases
+// whether a delta that passes over releases on a disk, behind some cases, leaves these texts in the s-file, and other
+// cases
 // end as they should
 fn passes_on(
     alloc: Global,

@@ -44,7 +44,8 @@ fn is_unlocked(disk: &MemoryDisk) -> Result<bool, Fail> {
     Ok(has_file(disk, b"z.a", None)? && has_file(disk, b"z.b", None)?)
 }
 
-// whether an image that a stop behind so many calls may leave is a first part of the entries once both names are recovered
+// whether an image that a stop behind so many calls may leave is a first part of the entries once both names are
+// recovered
 fn image_recovers(
     alloc: Global,
     disk: &MemoryDisk,

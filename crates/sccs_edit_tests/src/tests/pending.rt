@@ -379,7 +379,8 @@ fn releases_may_be_closed(rt: HostRuntime) -> Result<(), Fail> {
 
 // one delta, 1.9999
 const LAST: &[u8] =
-    b"\x01h00000\n\x01s 00000/00000/00000\n\x01d D 1.9999 21/03/04 05:06:07 ann 1 0\n\x01c\n\x01e\n\x01u\n\x01U\n\x01t\n\x01T\n\x01I 1\n\x01E 1\n";
+    b"\x01h00000\n\x01s 00000/00000/00000\n\x01d D 1.9999 21/03/04 05:06:07 ann 1 0\n\x01c\n\x01e\n\x01u\n\x01U\n\
+        \x01t\n\x01T\n\x01I 1\n\x01E 1\n";
 
 #[test]
 fn numbers_end(rt: HostRuntime) -> Result<(), Fail> {

@@ -6,7 +6,10 @@ use std::test::Fail;
 
 // the deltas 1.1 and 1.2
 const S_FILE: &[u8] =
-    b"\x01h12386\n\x01s 00001/00000/00002\n\x01d D 1.2 21/03/04 05:08:00 ann 2 1\n\x01c second\n\x01e\n\x01s 00002/00000/00000\n\x01d D 1.1 21/03/04 05:06:07 ann 1 0\n\x01c date and time created 21/03/04 05:06:07 by ann\n\x01e\n\x01u\n\x01U\n\x01t\n\x01T\n\x01I 1\none\n\x01I 2\nmid\n\x01E 2\ntwo %I%\n\x01E 1\n";
+    b"\x01h12386\n\x01s 00001/00000/00002\n\x01d D 1.2 21/03/04 05:08:00 ann 2 1\n\x01c second\n\x01e\n\
+        \x01s 00002/00000/00000\n\x01d D 1.1 21/03/04 05:06:07 ann 1 0\n\
+        \x01c date and time created 21/03/04 05:06:07 by ann\n\x01e\n\x01u\n\x01U\n\x01t\n\x01T\n\x01I 1\none\n\
+        \x01I 2\nmid\n\x01E 2\ntwo %I%\n\x01E 1\n";
 
 // an entry whose delta is made, and one whose isn't
 const P_FILE: &[u8] = b"1.1 1.2 ann 21/03/04 05:07:30\n1.1 1.1.1.1 bob 21/03/04 05:07:40\n";

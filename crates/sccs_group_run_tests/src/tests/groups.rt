@@ -84,8 +84,10 @@ fn refused_entries_change_nothing(rt: HostRuntime) -> Result<(), Fail> {
 fn in_batch(alloc: Global, disk: &mut MemoryDisk) -> Result<bool, Fail> {
     let batch = Case {
         line: b"batch",
-        input: b"@ 21/03/04 05:08:00 ann 1 21\ngroup\n@ 3 3\ndelta\n-ysecond\ns.a\n1a\nmid\n.\n@ 3 3\ndelta\n-ysecond\ns.b\n1a\nmid\n.\n@ 3 3\ndelta\n-ysecond\ns.c\n1a\nmid\n.\n@ 21/03/04 05:09:00 ann 2 0\nrecover\ns.a\n",
-        out: b"\ns.a:\n1.2\n1 inserted\n0 deleted\n2 unchanged\n\ns.b:\n1.2\n1 inserted\n0 deleted\n2 unchanged\n\ns.c:\n1.2\n1 inserted\n0 deleted\n2 unchanged\n= 0\ns.a: clean\n= 0\n",
+        input: b"@ 21/03/04 05:08:00 ann 1 21\ngroup\n@ 3 3\ndelta\n-ysecond\ns.a\n1a\nmid\n.\n@ 3 3\ndelta\n-ysecond\n\
+            s.b\n1a\nmid\n.\n@ 3 3\ndelta\n-ysecond\ns.c\n1a\nmid\n.\n@ 21/03/04 05:09:00 ann 2 0\nrecover\ns.a\n",
+        out: b"\ns.a:\n1.2\n1 inserted\n0 deleted\n2 unchanged\n\ns.b:\n1.2\n1 inserted\n0 deleted\n2 unchanged\n\n\
+            s.c:\n1.2\n1 inserted\n0 deleted\n2 unchanged\n= 0\ns.a: clean\n= 0\n",
         ..CASE
     };
     ends(alloc, disk, &batch)

@@ -160,13 +160,15 @@ const FREE: [File<'static>; 9] = [
 ];
 
 const REPORT: &[u8] =
-    b"\ns.a:\n1.2\n1 inserted\n0 deleted\n2 unchanged\n\ns.b:\n1.2\n1 inserted\n0 deleted\n2 unchanged\n\ns.c:\n1.2\n1 inserted\n0 deleted\n2 unchanged\n";
+    b"\ns.a:\n1.2\n1 inserted\n0 deleted\n2 unchanged\n\ns.b:\n1.2\n1 inserted\n0 deleted\n2 unchanged\n\ns.c:\n1.2\n\
+        1 inserted\n0 deleted\n2 unchanged\n";
 
 /// The group of their deltas.
 pub const GROUP: Case<'static> = Case {
     line: b"group",
     time: b"05:08:00",
-    input: b"@ 3 3\ndelta\n-ysecond\ns.a\n1a\nmid\n.\n@ 3 3\ndelta\n-ysecond\ns.b\n1a\nmid\n.\n@ 3 3\ndelta\n-ysecond\ns.c\n1a\nmid\n.\n",
+    input: b"@ 3 3\ndelta\n-ysecond\ns.a\n1a\nmid\n.\n@ 3 3\ndelta\n-ysecond\ns.b\n1a\nmid\n.\n@ 3 3\ndelta\n-ysecond\n\
+        s.c\n1a\nmid\n.\n",
     out: REPORT,
     ..CASE
 };

@@ -10,7 +10,8 @@ use std::test::Fail;
 
 // One delta that holds no line.
 pub const EMPTY: &[u8] =
-    b"\x01h07227\n\x01s 00000/00000/00000\n\x01d D 1.1 21/03/04 05:06:07 ann 1 0\n\x01c date and time created 21/03/04 05:06:07 by ann\n\x01e\n\x01u\n\x01U\n\x01t\n\x01T\n\x01I 1\n\x01E 1\n";
+    b"\x01h07227\n\x01s 00000/00000/00000\n\x01d D 1.1 21/03/04 05:06:07 ann 1 0\n\
+        \x01c date and time created 21/03/04 05:06:07 by ann\n\x01e\n\x01u\n\x01U\n\x01t\n\x01T\n\x01I 1\n\x01E 1\n";
 
 // an edit of 1.1
 pub const EDIT: &[u8] = b"1.1 1.2 ann 21/03/04 05:07:00\n";

@@ -7,22 +7,27 @@ use std::alloc::Global;
 use std::test::Fail;
 
 const FILE: &[u8] =
-    b"\x01h06178\n\x01s 00002/00000/00000\n\x01d D 1.1 21/03/04 05:06:07 ann 1 0\n\x01c one\n\x01e\n\x01u\nann\n\x01U\n\x01f q a b\n\x01t\nabout\n\x01T\n\x01I 1\none\ntwo\n\x01E 1\n";
+    b"\x01h06178\n\x01s 00002/00000/00000\n\x01d D 1.1 21/03/04 05:06:07 ann 1 0\n\x01c one\n\x01e\n\x01u\nann\n\x01U\n\
+        \x01f q a b\n\x01t\nabout\n\x01T\n\x01I 1\none\ntwo\n\x01E 1\n";
 
 // the same with more blanks and zeros in the control lines
 const PADDED: &[u8] =
-    b"\x01h06370\n\x01s 00002/00000/00000\n\x01d D 1.1 21/03/04 05:06:07 ann 1 0\n\x01c one\n\x01e\n\x01u\nann\n\x01U\n\x01f q a b\n\x01t\nabout\n\x01T\n\x01I  001\none\ntwo\n\x01E   1\n";
+    b"\x01h06370\n\x01s 00002/00000/00000\n\x01d D 1.1 21/03/04 05:06:07 ann 1 0\n\x01c one\n\x01e\n\x01u\nann\n\x01U\n\
+        \x01f q a b\n\x01t\nabout\n\x01T\n\x01I  001\none\ntwo\n\x01E   1\n";
 
 // a byte past 127, and the signed sum; the plain one is 6310
 const SIGNED: &[u8] =
-    b"\x01h06054\n\x01s 00002/00000/00000\n\x01d D 1.1 21/03/04 05:06:07 ann 1 0\n\x01c one\n\x01e\n\x01u\nann\n\x01U\n\x01f q a b\n\x01t\nabout\n\x01T\n\x01I 1\non\xe9\ntwo\n\x01E 1\n";
+    b"\x01h06054\n\x01s 00002/00000/00000\n\x01d D 1.1 21/03/04 05:06:07 ann 1 0\n\x01c one\n\x01e\n\x01u\nann\n\x01U\n\
+        \x01f q a b\n\x01t\nabout\n\x01T\n\x01I 1\non\xe9\ntwo\n\x01E 1\n";
 
 // the first of these with another byte, and with a line more
 const OTHER_BYTE: &[u8] =
-    b"\x01h06178\n\x01s 00002/00000/00000\n\x01d D 1.1 21/03/04 05:06:07 ann 1 0\n\x01c one\n\x01e\n\x01u\nann\n\x01U\n\x01f q a b\n\x01t\nabout\n\x01T\n\x01I 1\none\ntwp\n\x01E 1\n";
+    b"\x01h06178\n\x01s 00002/00000/00000\n\x01d D 1.1 21/03/04 05:06:07 ann 1 0\n\x01c one\n\x01e\n\x01u\nann\n\x01U\n\
+        \x01f q a b\n\x01t\nabout\n\x01T\n\x01I 1\none\ntwp\n\x01E 1\n";
 
 const LONGER: &[u8] =
-    b"\x01h06178\n\x01s 00002/00000/00000\n\x01d D 1.1 21/03/04 05:06:07 ann 1 0\n\x01c one\n\x01e\n\x01u\nann\n\x01U\n\x01f q a b\n\x01t\nabout\n\x01T\n\x01I 1\none\ntwo\n\x01E 1\nend\n";
+    b"\x01h06178\n\x01s 00002/00000/00000\n\x01d D 1.1 21/03/04 05:06:07 ann 1 0\n\x01c one\n\x01e\n\x01u\nann\n\x01U\n\
+        \x01f q a b\n\x01t\nabout\n\x01T\n\x01I 1\none\ntwo\n\x01E 1\nend\n";
 
 fn s_file() -> Result<Name, Fail> {
     Ok(Name::read(b"s.a").ok_or("a name")?)
@@ -123,33 +128,40 @@ fn faults_of_files(rt: HostRuntime) -> Result<(), Fail> {
     let name = s_file()?;
     let rows: [(&[u8], FileFault); 7] = [
         (
-            b"\x01h05824\n\x01s 00002/00000/00000\n\x01d D 1.1 21/03/04 05:06:07 ann 1 0\n\x01c one\n\x01e\n\x01u\nann\n\x01U\n\x01f q a b\n\x01t\nabout\n\x01T\n\x01I 2\none\n\x01E 2\n",
+            b"\x01h05824\n\x01s 00002/00000/00000\n\x01d D 1.1 21/03/04 05:06:07 ann 1 0\n\x01c one\n\x01e\n\x01u\n\
+                ann\n\x01U\n\x01f q a b\n\x01t\nabout\n\x01T\n\x01I 2\none\n\x01E 2\n",
             FileFault::BadFormat(13),
         ),
         (
-            b"\x01h06178\n\x01s 00002/00000/00000\n\x01d D 1.1 21/03/04 05:06:07 ann 1 0\n\x01c one\n\x01e\n\x01u\nann\n\x01U\n\x01f q a b\n\x01t\nabout\n\x01T\n\x01I 1\none\n\x01E 1\ntwo\n",
+            b"\x01h06178\n\x01s 00002/00000/00000\n\x01d D 1.1 21/03/04 05:06:07 ann 1 0\n\x01c one\n\x01e\n\x01u\n\
+                ann\n\x01U\n\x01f q a b\n\x01t\nabout\n\x01T\n\x01I 1\none\n\x01E 1\ntwo\n",
             FileFault::BadFormat(16),
         ),
         (
-            b"\x01h05661\n\x01s 00002/00000/00000\n\x01d D 1.1 21/03/04 05:06:07 ann 1 0\n\x01c one\n\x01e\n\x01u\nann\n\x01U\n\x01f q a b\n\x01t\nabout\n\x01T\n\x01I 1\none\n",
+            b"\x01h05661\n\x01s 00002/00000/00000\n\x01d D 1.1 21/03/04 05:06:07 ann 1 0\n\x01c one\n\x01e\n\x01u\n\
+                ann\n\x01U\n\x01f q a b\n\x01t\nabout\n\x01T\n\x01I 1\none\n",
             FileFault::BadFormat(15),
         ),
         (
-            b"\x01h05942\n\x01s 00002/00000/00000\n\x01d D 1.1 21/03/04 05:06:07 ann 1 0\n\x01c one\n\x01e\n\x01u\nann\n\x01U\n\x01f q a b\n\x01t\nabout\n\x01T\n\x01I 1\none\n\x01E 1\nx",
+            b"\x01h05942\n\x01s 00002/00000/00000\n\x01d D 1.1 21/03/04 05:06:07 ann 1 0\n\x01c one\n\x01e\n\x01u\n\
+                ann\n\x01U\n\x01f q a b\n\x01t\nabout\n\x01T\n\x01I 1\none\n\x01E 1\nx",
             FileFault::BadFormat(16),
         ),
         (
-            b"\x01h05632\n\x01s 00002/00000/00000\n\x01d D 1.1 21/03/04 05:06:07 ann 1 0\n\x01c one\n\x01e\n\x01u\nann\n\x01U\n\x01f e 1\n\x01t\nabout\n\x01T\n\x01I 1\none\n\x01E 1\n",
+            b"\x01h05632\n\x01s 00002/00000/00000\n\x01d D 1.1 21/03/04 05:06:07 ann 1 0\n\x01c one\n\x01e\n\x01u\n\
+                ann\n\x01U\n\x01f e 1\n\x01t\nabout\n\x01T\n\x01I 1\none\n\x01E 1\n",
             FileFault::Encoded,
         ),
         // encoded, and with a serial that is not there
         (
-            b"\x01h05633\n\x01s 00002/00000/00000\n\x01d D 1.1 21/03/04 05:06:07 ann 1 0\n\x01c one\n\x01e\n\x01u\nann\n\x01U\n\x01f e 1\n\x01t\nabout\n\x01T\n\x01I 2\none\n\x01E 1\n",
+            b"\x01h05633\n\x01s 00002/00000/00000\n\x01d D 1.1 21/03/04 05:06:07 ann 1 0\n\x01c one\n\x01e\n\x01u\n\
+                ann\n\x01U\n\x01f e 1\n\x01t\nabout\n\x01T\n\x01I 2\none\n\x01E 1\n",
             FileFault::BadFormat(13),
         ),
         // a stored sum that is one more than the signed one
         (
-            b"\x01h06055\n\x01s 00002/00000/00000\n\x01d D 1.1 21/03/04 05:06:07 ann 1 0\n\x01c one\n\x01e\n\x01u\nann\n\x01U\n\x01f q a b\n\x01t\nabout\n\x01T\n\x01I 1\non\xe9\ntwo\n\x01E 1\n",
+            b"\x01h06055\n\x01s 00002/00000/00000\n\x01d D 1.1 21/03/04 05:06:07 ann 1 0\n\x01c one\n\x01e\n\x01u\n\
+                ann\n\x01U\n\x01f q a b\n\x01t\nabout\n\x01T\n\x01I 1\non\xe9\ntwo\n\x01E 1\n",
             FileFault::BadSum(6055, 6310),
         ),
     ];

@@ -167,8 +167,16 @@ fn written_texts(rt: HostRuntime) -> Result<(), Fail> {
     ] {
         write_refusal(b"s.a", &refusal, &mut sink)?;
     }
-    let wanted =
-        b"1.201.2.3.400000/02/29 23:59:59ERROR [s.a]: not a name of an s-file (01)\nERROR [s.a]: bad sum: stored 00003, computed 65535 (07)\nERROR [s.a]: format error at line 12 (08)\nERROR [s.a]: bad list at 1.2.3.4 (16)\nERROR [s.a]: bad list at 5.6 (16)\nERROR [s.a]: script line 18446744073709551615: text has 18446744073709551615 lines (22)\nERROR [s.a]: bad flag x (27)\nERROR [s.a]: not the newest delta of its branch (31)\nERROR [s.a]: not the owner (32)\nERROR [s.a]: file changed while read (34)\nERROR [s.a]: bad RCS file at byte 7 (35)\nERROR [s.a]: revision 0 is unfit (36)\nERROR [s.a]: revision 2 fails at line 1 (37)\nERROR [s.a]: revision 18446744073709551615 fails at line 18446744073709551615 (37)\nERROR [s.a]: a group is pending (38)\nERROR [s.a]: format error in intent at line 1 (39)\n";
+    let wanted = b"1.201.2.3.400000/02/29 23:59:59ERROR [s.a]: not a name of an s-file (01)\n\
+            ERROR [s.a]: bad sum: stored 00003, computed 65535 (07)\nERROR [s.a]: format error at line 12 (08)\n\
+            ERROR [s.a]: bad list at 1.2.3.4 (16)\nERROR [s.a]: bad list at 5.6 (16)\n\
+            ERROR [s.a]: script line 18446744073709551615: text has 18446744073709551615 lines (22)\n\
+            ERROR [s.a]: bad flag x (27)\nERROR [s.a]: not the newest delta of its branch (31)\n\
+            ERROR [s.a]: not the owner (32)\nERROR [s.a]: file changed while read (34)\n\
+            ERROR [s.a]: bad RCS file at byte 7 (35)\nERROR [s.a]: revision 0 is unfit (36)\n\
+            ERROR [s.a]: revision 2 fails at line 1 (37)\n\
+            ERROR [s.a]: revision 18446744073709551615 fails at line 18446744073709551615 (37)\n\
+            ERROR [s.a]: a group is pending (38)\nERROR [s.a]: format error in intent at line 1 (39)\n";
     assert_eq!(rt; sink.bytes(), wanted.as_slice());
     Ok(())
 }

@@ -6,30 +6,43 @@ use std::alloc::Global;
 use std::test::Fail;
 
 const FILE: &[u8] =
-    b"\x01h06178\n\x01s 00002/00000/00000\n\x01d D 1.1 21/03/04 05:06:07 ann 1 0\n\x01c one\n\x01e\n\x01u\nann\n\x01U\n\x01f q a b\n\x01t\nabout\n\x01T\n\x01I 1\none\ntwo\n\x01E 1\n";
+    b"\x01h06178\n\x01s 00002/00000/00000\n\x01d D 1.1 21/03/04 05:06:07 ann 1 0\n\x01c one\n\x01e\n\x01u\nann\n\x01U\n\
+        \x01f q a b\n\x01t\nabout\n\x01T\n\x01I 1\none\ntwo\n\x01E 1\n";
 
 // a blank behind the statistics
 const BLANK: &[u8] =
-    b"\x01h05854\n\x01s 00002/00000/00000 \n\x01d D 1.1 21/03/04 05:06:07 ann 1 0\n\x01c one\n\x01e\n\x01u\nann\n\x01U\n\x01f q a b\n\x01t\nabout\n\x01T\n\x01I 1\none\n\x01E 1\n";
+    b"\x01h05854\n\x01s 00002/00000/00000 \n\x01d D 1.1 21/03/04 05:06:07 ann 1 0\n\x01c one\n\x01e\n\x01u\nann\n\
+        \x01U\n\x01f q a b\n\x01t\nabout\n\x01T\n\x01I 1\none\n\x01E 1\n";
 
 const ENCODED: &[u8] =
-    b"\x01h05632\n\x01s 00002/00000/00000\n\x01d D 1.1 21/03/04 05:06:07 ann 1 0\n\x01c one\n\x01e\n\x01u\nann\n\x01U\n\x01f e 1\n\x01t\nabout\n\x01T\n\x01I 1\none\n\x01E 1\n";
+    b"\x01h05632\n\x01s 00002/00000/00000\n\x01d D 1.1 21/03/04 05:06:07 ann 1 0\n\x01c one\n\x01e\n\x01u\nann\n\x01U\n\
+        \x01f e 1\n\x01t\nabout\n\x01T\n\x01I 1\none\n\x01E 1\n";
 
 // SIDs that fall, and then those of a branch and of its trunk
 const BRANCH: &[u8] =
-    b"\x01h12747\n\x01s 00001/00000/00000\n\x01d D 1.3 21/03/04 05:06:07 ann 4 2\n\x01e\n\x01s 00001/00000/00000\n\x01d D 1.1.1.1 21/03/04 05:06:07 ann 3 1\n\x01e\n\x01s 00001/00000/00000\n\x01d D 1.2 21/03/04 05:06:07 ann 2 1\n\x01e\n\x01s 00001/00000/00000\n\x01d D 1.1 21/03/04 05:06:07 ann 1 0\n\x01e\n\x01u\n\x01U\n\x01t\n\x01T\n\x01I 1\none\n\x01E 1\n";
+    b"\x01h12747\n\x01s 00001/00000/00000\n\x01d D 1.3 21/03/04 05:06:07 ann 4 2\n\x01e\n\x01s 00001/00000/00000\n\
+        \x01d D 1.1.1.1 21/03/04 05:06:07 ann 3 1\n\x01e\n\x01s 00001/00000/00000\n\
+        \x01d D 1.2 21/03/04 05:06:07 ann 2 1\n\x01e\n\x01s 00001/00000/00000\n\x01d D 1.1 21/03/04 05:06:07 ann 1 0\n\
+        \x01e\n\x01u\n\x01U\n\x01t\n\x01T\n\x01I 1\none\n\x01E 1\n";
 
 // the same with 1.3 once more in place of 1.1
 const TWICE_APART: &[u8] =
-    b"\x01h12749\n\x01s 00001/00000/00000\n\x01d D 1.3 21/03/04 05:06:07 ann 4 2\n\x01e\n\x01s 00001/00000/00000\n\x01d D 1.1.1.1 21/03/04 05:06:07 ann 3 1\n\x01e\n\x01s 00001/00000/00000\n\x01d D 1.2 21/03/04 05:06:07 ann 2 1\n\x01e\n\x01s 00001/00000/00000\n\x01d D 1.3 21/03/04 05:06:07 ann 1 0\n\x01e\n\x01u\n\x01U\n\x01t\n\x01T\n\x01I 1\none\n\x01E 1\n";
+    b"\x01h12749\n\x01s 00001/00000/00000\n\x01d D 1.3 21/03/04 05:06:07 ann 4 2\n\x01e\n\x01s 00001/00000/00000\n\
+        \x01d D 1.1.1.1 21/03/04 05:06:07 ann 3 1\n\x01e\n\x01s 00001/00000/00000\n\
+        \x01d D 1.2 21/03/04 05:06:07 ann 2 1\n\x01e\n\x01s 00001/00000/00000\n\x01d D 1.3 21/03/04 05:06:07 ann 1 0\n\
+        \x01e\n\x01u\n\x01U\n\x01t\n\x01T\n\x01I 1\none\n\x01E 1\n";
 
 // two live deltas of one SID
 const TWICE: &[u8] =
-    b"\x01h09692\n\x01s 00001/00000/00000\n\x01d D 1.2 21/03/04 05:06:07 ann 3 2\n\x01e\n\x01s 00001/00000/00000\n\x01d D 1.2 21/03/04 05:06:07 ann 2 1\n\x01e\n\x01s 00001/00000/00000\n\x01d D 1.1 21/03/04 05:06:07 ann 1 0\n\x01e\n\x01u\n\x01U\n\x01t\n\x01T\n\x01I 1\none\n\x01E 1\n";
+    b"\x01h09692\n\x01s 00001/00000/00000\n\x01d D 1.2 21/03/04 05:06:07 ann 3 2\n\x01e\n\x01s 00001/00000/00000\n\
+        \x01d D 1.2 21/03/04 05:06:07 ann 2 1\n\x01e\n\x01s 00001/00000/00000\n\x01d D 1.1 21/03/04 05:06:07 ann 1 0\n\
+        \x01e\n\x01u\n\x01U\n\x01t\n\x01T\n\x01I 1\none\n\x01E 1\n";
 
 // the same where one is removed
 const ONE_REMOVED: &[u8] =
-    b"\x01h09705\n\x01s 00001/00000/00000\n\x01d D 1.2 21/03/04 05:06:07 ann 3 1\n\x01e\n\x01s 00001/00000/00000\n\x01d R 1.2 21/03/04 05:06:07 ann 2 1\n\x01e\n\x01s 00001/00000/00000\n\x01d D 1.1 21/03/04 05:06:07 ann 1 0\n\x01e\n\x01u\n\x01U\n\x01t\n\x01T\n\x01I 1\none\n\x01E 1\n";
+    b"\x01h09705\n\x01s 00001/00000/00000\n\x01d D 1.2 21/03/04 05:06:07 ann 3 1\n\x01e\n\x01s 00001/00000/00000\n\
+        \x01d R 1.2 21/03/04 05:06:07 ann 2 1\n\x01e\n\x01s 00001/00000/00000\n\x01d D 1.1 21/03/04 05:06:07 ann 1 0\n\
+        \x01e\n\x01u\n\x01U\n\x01t\n\x01T\n\x01I 1\none\n\x01E 1\n";
 
 // a disk with one file, which fails at the call of this number
 fn disk_with(

@@ -12,7 +12,10 @@ use std::test::Fail;
 
 // two deltas on the trunk and a branch on the first
 const S_FILE: &[u8] =
-    b"\x01h13003\n\x01s 00001/00000/00002\n\x01d D 1.1.1.1 99/12/31 23:59:59 bob 3 1\n\x01c\n\x01e\n\x01s 00001/00001/00001\n\x01d D 1.2 75/03/01 00:00:00 ann 2 1\n\x01c two\n\x01e\n\x01s 00002/00000/00000\n\x01d D 1.1 75/02/28 23:59:59 ann 1 0\n\x01c one\n\x01e\n\x01u\nann\nbob\n\x01U\n\x01f e 0\n\x01t\n\x01T\n\x01I 1\na\n\x01D 2\nb\n\x01E 2\n\x01I 2\nB\n\x01E 2\n\x01I 3\nc\n\x01E 3\n\x01E 1\n";
+    b"\x01h13003\n\x01s 00001/00000/00002\n\x01d D 1.1.1.1 99/12/31 23:59:59 bob 3 1\n\x01c\n\x01e\n\
+        \x01s 00001/00001/00001\n\x01d D 1.2 75/03/01 00:00:00 ann 2 1\n\x01c two\n\x01e\n\x01s 00002/00000/00000\n\
+        \x01d D 1.1 75/02/28 23:59:59 ann 1 0\n\x01c one\n\x01e\n\x01u\nann\nbob\n\x01U\n\x01f e 0\n\x01t\n\x01T\n\
+        \x01I 1\na\n\x01D 2\nb\n\x01E 2\n\x01I 2\nB\n\x01E 2\n\x01I 3\nc\n\x01E 3\n\x01E 1\n";
 
 // the words of a line, which semicolons part
 fn words_of(alloc: Global, line: &[u8]) -> Result<Words, Fail> {
@@ -104,7 +107,9 @@ fn all_deltas(rt: HostRuntime) -> Result<(), Fail> {
     let all = prints(
         alloc,
         b"prs;s.b",
-        b"s.b:\n\nD 1.1.1.1 99/12/31 23:59:59 bob 3 1\t00001/00000/00002\nMRs:\nCOMMENTS:\n\n\nD 1.2 75/03/01 00:00:00 ann 2 1\t00001/00001/00001\nMRs:\nCOMMENTS:\ntwo\n\nD 1.1 75/02/28 23:59:59 ann 1 0\t00002/00000/00000\nMRs:\nCOMMENTS:\none\n\n",
+        b"s.b:\n\nD 1.1.1.1 99/12/31 23:59:59 bob 3 1\t00001/00000/00002\nMRs:\nCOMMENTS:\n\n\n\
+            D 1.2 75/03/01 00:00:00 ann 2 1\t00001/00001/00001\nMRs:\nCOMMENTS:\ntwo\n\n\
+            D 1.1 75/02/28 23:59:59 ann 1 0\t00002/00000/00000\nMRs:\nCOMMENTS:\none\n\n",
     )?;
     assert!(rt; all);
     Ok(())

@@ -5,8 +5,10 @@ use std::alloc::Global;
 use std::test::Fail;
 
 // two revisions; the script deletes the second of three lines
-pub const TWO: &[u8] =
-    b"head\t1.2;\naccess;\nsymbols;\nlocks; strict;\ncomment\t@# @;\n\n\n1.2\ndate\t2021.03.04.05.08.00;\tauthor ann;\tstate Exp;\nbranches;\nnext\t1.1;\n\n1.1\ndate\t2021.03.04.05.06.07;\tauthor ann;\tstate Exp;\nbranches;\nnext\t;\n\n\ndesc\n@@\n\n\n1.2\nlog\n@second\n@\ntext\n@one\nmid\ntwo\n@\n\n\n1.1\nlog\n@first\n@\ntext\n@d2 1\n@\n";
+pub const TWO: &[u8] = b"head\t1.2;\naccess;\nsymbols;\nlocks; strict;\ncomment\t@# @;\n\n\n1.2\n\
+        date\t2021.03.04.05.08.00;\tauthor ann;\tstate Exp;\nbranches;\nnext\t1.1;\n\n1.1\n\
+        date\t2021.03.04.05.06.07;\tauthor ann;\tstate Exp;\nbranches;\nnext\t;\n\n\ndesc\n@@\n\n\n1.2\nlog\n@second\n\
+        @\ntext\n@one\nmid\ntwo\n@\n\n\n1.1\nlog\n@first\n@\ntext\n@d2 1\n@\n";
 
 // the same with other bytes in the place of some
 pub fn with(alloc: Global, old: &[u8], new: &[u8]) -> Result<Vec<u8>, Fail> {

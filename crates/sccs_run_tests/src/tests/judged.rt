@@ -78,7 +78,8 @@ fn lines_are_judged(rt: HostRuntime) -> Result<(), Fail> {
         line: b"val -",
         input: b"s.b\n -r1 s.b \n-s -r9.9 s.b\n-\n\n-y",
         status: 0xdc,
-        out: b" -r1 s.b :\ns.b: SID is invalid or ambiguous\n-:\n-: cannot open file or file not SCCS\n:\nval: missing file argument\n-y:\nval: missing file argument\nval: unknown or duplicate option\n",
+        out: b" -r1 s.b :\ns.b: SID is invalid or ambiguous\n-:\n-: cannot open file or file not SCCS\n:\n\
+            val: missing file argument\n-y:\nval: missing file argument\nval: unknown or duplicate option\n",
         ..CASE
     };
     assert!(rt; ends(rt.alloc(), &mut disk, &lines)?);

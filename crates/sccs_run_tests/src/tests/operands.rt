@@ -124,7 +124,8 @@ const PRINTED: [Row<'static>; 4] = [
     (
         b"prs s.a",
         0,
-        b"s.a:\n\nD 1.1 21/03/04 05:06:07 ann 1 0\t00002/00000/00000\nMRs:\nCOMMENTS:\ndate and time created 21/03/04 05:06:07 by ann\n\n",
+        b"s.a:\n\nD 1.1 21/03/04 05:06:07 ann 1 0\t00002/00000/00000\nMRs:\nCOMMENTS:\n\
+            date and time created 21/03/04 05:06:07 by ann\n\n",
         b"",
     ),
     (b"prs s.c", 1, b"", b"ERROR [s.c]: no such file (03)\n"),
@@ -147,7 +148,9 @@ const REFUSED: [Row<'static>; 2] = [
         b"rmdel -r1.1 x s.a .",
         1,
         b"",
-        b"ERROR [x]: not a name of an s-file (01)\nERROR [s.a]: not the newest delta of its branch (31)\nERROR [s.a]: not the newest delta of its branch (31)\nERROR [s.b]: not the newest delta of its branch (31)\n",
+        b"ERROR [x]: not a name of an s-file (01)\nERROR [s.a]: not the newest delta of its branch (31)\n\
+            ERROR [s.a]: not the newest delta of its branch (31)\n\
+            ERROR [s.b]: not the newest delta of its branch (31)\n",
     ),
 ];
 

@@ -18,17 +18,21 @@ const FILES: [File<'static>; 2] = [
     },
 ];
 
-const TAKEN_IN: &[u8] =
-    b"  I 1.1.1.1\t99/12/31 23:59:59 bob\n\t\n\n    1.2\t75/03/01 00:00:00 ann\n\ttwo\n\n    1.1\t75/02/28 23:59:59 ann\n\tone\n\n";
+const TAKEN_IN: &[u8] = b"  I 1.1.1.1\t99/12/31 23:59:59 bob\n\
+        \t\n\n    1.2\t75/03/01 00:00:00 ann\n\ttwo\n\n    1.1\t75/02/28 23:59:59 ann\n\
+        \tone\n\n";
 
-const LEFT_OUT: &[u8] =
-    b"**  1.1.1.1\t99/12/31 23:59:59 bob\n\t\n\n**X 1.2\t75/03/01 00:00:00 ann\n\ttwo\n\n    1.1\t75/02/28 23:59:59 ann\n\tone\n\n";
+const LEFT_OUT: &[u8] = b"**  1.1.1.1\t99/12/31 23:59:59 bob\n\
+        \t\n\n**X 1.2\t75/03/01 00:00:00 ann\n\ttwo\n\n    1.1\t75/02/28 23:59:59 ann\n\
+        \tone\n\n";
 
-const LATE: &[u8] =
-    b"**C 1.1.1.1\t99/12/31 23:59:59 bob\n\t\n\n    1.2\t75/03/01 00:00:00 ann\n\ttwo\n\n    1.1\t75/02/28 23:59:59 ann\n\tone\n\n";
+const LATE: &[u8] = b"**C 1.1.1.1\t99/12/31 23:59:59 bob\n\
+        \t\n\n    1.2\t75/03/01 00:00:00 ann\n\ttwo\n\n    1.1\t75/02/28 23:59:59 ann\n\
+        \tone\n\n";
 
-const NEWEST: &[u8] =
-    b"**  1.1.1.1\t99/12/31 23:59:59 bob\n\t\n\n    1.2\t75/03/01 00:00:00 ann\n\ttwo\n\n    1.1\t75/02/28 23:59:59 ann\n\tone\n\n";
+const NEWEST: &[u8] = b"**  1.1.1.1\t99/12/31 23:59:59 bob\n\
+        \t\n\n    1.2\t75/03/01 00:00:00 ann\n\ttwo\n\n    1.1\t75/02/28 23:59:59 ann\n\
+        \tone\n\n";
 
 const FIRST: &[u8] =
     b"    1.1\t21/03/04 05:06:07 ann\n\tdate and time created 21/03/04 05:06:07 by ann\n\n";

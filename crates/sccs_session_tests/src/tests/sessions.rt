@@ -19,7 +19,8 @@ struct Session {
     draws: Draws,
 }
 
-// the files behind each first part of a command's operands, each operand in a run of its own; of a single one those of its run
+// the files behind each first part of a command's operands, each operand in a run of its own; of a single one those of
+// its run
 fn states(
     alloc: Global,
     command: &Command,
@@ -86,7 +87,8 @@ impl Session {
         }
     }
 
-    // whether the next command leaves the files as behind its steps, or, stopped, as behind some first ones, all that were
+    // whether the next command leaves the files as behind its steps, or, stopped, as behind some first ones, all that
+    // were
     // reported among them
     fn goes_on(&mut self, alloc: Global, number: u64) -> Result<bool, Fail> {
         let time = format!(in alloc; "05:{:02}:{:02}", number / 60 % 60, number % 60)?;

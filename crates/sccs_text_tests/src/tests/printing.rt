@@ -21,7 +21,9 @@ use std::test::Fail;
 
 // the deltas 1.1 and 1.2, each with a keyword in its second line
 const S_FILE: &[u8] =
-    b"\x01h10325\n\x01s 00001/00001/00002\n\x01d D 1.2 21/03/04 05:08:00 ann 2 1\n\x01c two\n\x01e\n\x01s 00003/00000/00000\n\x01d D 1.1 21/03/04 05:06:07 ann 1 0\n\x01c one\n\x01e\n\x01u\n\x01U\n\x01t\n\x01T\n\x01I 1\none\n\x01D 2\nold %I%\n\x01E 2\n\x01I 2\nnew %C% of %M%\n\x01E 2\nlast\n\x01E 1\n";
+    b"\x01h10325\n\x01s 00001/00001/00002\n\x01d D 1.2 21/03/04 05:08:00 ann 2 1\n\x01c two\n\x01e\n\
+        \x01s 00003/00000/00000\n\x01d D 1.1 21/03/04 05:06:07 ann 1 0\n\x01c one\n\x01e\n\x01u\n\x01U\n\x01t\n\x01T\n\
+        \x01I 1\none\n\x01D 2\nold %I%\n\x01E 2\n\x01I 2\nnew %C% of %M%\n\x01E 2\nlast\n\x01E 1\n";
 
 fn name(bytes: &[u8]) -> Result<Name, Fail> {
     Ok(Name::read(bytes).ok_or("a name")?)

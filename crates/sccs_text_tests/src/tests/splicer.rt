@@ -140,7 +140,8 @@ const THREE: [Row; 5] = [
 #[test]
 fn marks_and_new_lines_placed(rt: HostRuntime) -> Result<(), Fail> {
     let wanted =
-        b"\x01I 3\nT\n\x01E 3\n\x01I 1\n1\n2\n\x01D 3\n3\n\x01E 3\n4\n\x01I 3\nX\n\x01E 3\n\x01D 3\n5\n\x01E 3\n\x01I 2\nh\n\x01E 2\n\x01D 3\n6\n\x01E 3\n7\n\x01E 1\n";
+        b"\x01I 3\nT\n\x01E 3\n\x01I 1\n1\n2\n\x01D 3\n3\n\x01E 3\n4\n\x01I 3\nX\n\x01E 3\n\x01D 3\n5\n\x01E 3\n\
+            \x01I 2\nh\n\x01E 2\n\x01D 3\n6\n\x01E 3\n7\n\x01E 1\n";
     let script = b"5,6c\nX\n.\n3d\n0a\nT\n.\n";
     assert!(rt; splices(rt.alloc(), &SEVEN, 3, script, wanted, [2, 3, 4])?);
     Ok(())

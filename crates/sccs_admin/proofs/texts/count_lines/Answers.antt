@@ -7,7 +7,8 @@ use Rattle.sccs_admin.proofs.texts.count_lines.Goals as goal
 
 pub lines-init : goal.lines-init
 lines-init c =
-    let all = ap (map without_lf) (c.into_iter-line-iterator.ensures.into_iter_gives ∙ c.lines_with_terminator-line-items.ensures.value) ∙ lines_text c.args.text.now in
+    let all = ap (map without_lf) (c.into_iter-line-iterator.ensures.into_iter_gives
+    ∙ c.lines_with_terminator-line-items.ensures.value) ∙ lines_text c.args.text.now in
     record {
       bad = ap (bad_line 0) all;
       all = omega (arith, ap length all);

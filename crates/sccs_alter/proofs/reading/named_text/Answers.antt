@@ -5,14 +5,17 @@ use Rattle.sccs_alter.proofs.ReadLaws.{named_found, named_missing, named_too_lon
 use Rattle.sccs_alter.proofs.reading.named_text.Goals as goal
 
 pub returns-in-Ok-clause-told : goal.returns-in-Ok-clause-told
-returns-in-Ok-clause-told g c = named_found c.args.file.now c.args.name.now c.in-Ok.text (seen (g.D.Disk.told c.args.disk.now)) c.in-Ok.ensures.reads
+returns-in-Ok-clause-told g c = named_found c.args.file.now c.args.name.now c.in-Ok.text
+    (seen (g.D.Disk.told c.args.disk.now)) c.in-Ok.ensures.reads
 
 pub returns-in-Err-Missing-clause-told : goal.returns-in-Err-Missing-clause-told
 returns-in-Err-Missing-clause-told g c =
     named_missing c.args.file.now c.args.name.now (seen (g.D.Disk.told c.args.disk.now))
-    (subst (λ f. ReadsNamed (Err f) c.args.file.now c.args.name.now (seen (g.D.Disk.told c.args.disk.now))) c.in-Err-Missing.field-0-is c.in-Err-Missing.ensures.reads)
+    (subst (λ f. ReadsNamed (Err f) c.args.file.now c.args.name.now (seen (g.D.Disk.told c.args.disk.now)))
+    c.in-Err-Missing.field-0-is c.in-Err-Missing.ensures.reads)
 
 pub returns-in-Err-TooLong-clause-told : goal.returns-in-Err-TooLong-clause-told
 returns-in-Err-TooLong-clause-told g c =
     named_too_long c.args.file.now c.args.name.now (seen (g.D.Disk.told c.args.disk.now))
-    (subst (λ f. ReadsNamed (Err f) c.args.file.now c.args.name.now (seen (g.D.Disk.told c.args.disk.now))) c.in-Err-TooLong.field-0-is c.in-Err-TooLong.ensures.reads)
+    (subst (λ f. ReadsNamed (Err f) c.args.file.now c.args.name.now (seen (g.D.Disk.told c.args.disk.now)))
+    c.in-Err-TooLong.field-0-is c.in-Err-TooLong.ensures.reads)

@@ -10,23 +10,47 @@ use Rattle.sccs_batch.proofs.running.run_batch.Goals as goal
 
 pub returns-in-Ok : goal.returns-in-Ok
 returns-in-Ok g c =
-    batch_ran (g.C.Commands.command c.args.commands.now) (g.C.Commands.fits c.args.commands.now) (g.C.Commands.whole c.args.commands.now) (g.C.Commands.begun c.args.commands.now) c.items.result.now c.run_entries.result (g.I.Source.left c.args.input.now) (g.I.Source.left c.read_names.new.input)
-    (scene (g.D.Disk.told c.args.disk.now) (g.O.Sink.given c.args.out.now) (g.E.Sink.given c.args.err.now)) (scene (g.D.Disk.told c.run_entries.new.disk) (g.O.Sink.given c.run_entries.new.out) (g.E.Sink.given c.run_entries.new.err))
-    (g.I.Source.faults c.args.input.now) (g.I.Source.faults c.read_names.new.input) (g.O.Sink.faults c.args.out.now) (g.O.Sink.faults c.run_entries.new.out) (g.E.Sink.faults c.args.err.now) (g.E.Sink.faults c.run_entries.new.err) (g.D.Disk.faults c.args.disk.now) (g.D.Disk.faults c.run_entries.new.disk) (g.C.Commands.takes c.args.commands.now)
-    (subst (λ (lines : List (List ℕ)). IfSome (g.I.Source.left c.args.input.now) (λ bytes. GivesLines file_limit bytes (Ok lines))) (sym c.items.ensures) c.in-Ok.ensures.told) c.read_names.ensures.causes.later c.run_entries.ensures
+    batch_ran (g.C.Commands.command c.args.commands.now) (g.C.Commands.fits c.args.commands.now)
+    (g.C.Commands.whole c.args.commands.now) (g.C.Commands.begun c.args.commands.now) c.items.result.now
+    c.run_entries.result (g.I.Source.left c.args.input.now) (g.I.Source.left c.read_names.new.input)
+    (scene (g.D.Disk.told c.args.disk.now) (g.O.Sink.given c.args.out.now) (g.E.Sink.given c.args.err.now))
+    (scene (g.D.Disk.told c.run_entries.new.disk) (g.O.Sink.given c.run_entries.new.out)
+    (g.E.Sink.given c.run_entries.new.err))
+    (g.I.Source.faults c.args.input.now) (g.I.Source.faults c.read_names.new.input) (g.O.Sink.faults c.args.out.now)
+    (g.O.Sink.faults c.run_entries.new.out) (g.E.Sink.faults c.args.err.now) (g.E.Sink.faults c.run_entries.new.err)
+    (g.D.Disk.faults c.args.disk.now) (g.D.Disk.faults c.run_entries.new.disk)
+    (g.C.Commands.takes c.args.commands.now)
+    (subst (λ (lines : List (List ℕ)). IfSome (g.I.Source.left c.args.input.now) (λ bytes. GivesLines file_limit bytes
+    (Ok lines))) (sym c.items.ensures) c.in-Ok.ensures.told) c.read_names.ensures.causes.later c.run_entries.ensures
 
 pub returns-in-Err-TooLong : goal.returns-in-Err-TooLong
 returns-in-Err-TooLong g c =
-    batch_refused (g.C.Commands.command c.args.commands.now) (g.C.Commands.fits c.args.commands.now) (g.C.Commands.whole c.args.commands.now) (g.C.Commands.begun c.args.commands.now) c.refuse_input.result (setting_of g.I.Source g.O.Sink g.E.Sink g.D.Disk c.args.input.now c.args.out.now c.args.err.now c.args.disk.now) (setting_of g.I.Source g.O.Sink g.E.Sink g.D.Disk c.read_names.new.input c.args.out.now c.refuse_input.new.err c.args.disk.now) (g.E.Sink.given c.refuse_input.new.err) (g.C.Commands.takes c.args.commands.now)
-    (subst (λ (fault : TakeFault). IfSome (g.I.Source.left c.args.input.now) (λ bytes. GivesLines file_limit bytes (Err fault))) c.in-Err-TooLong.field-0-is c.in-Err-TooLong.ensures.told) refl c.refuse_input.ensures.says
+    batch_refused (g.C.Commands.command c.args.commands.now) (g.C.Commands.fits c.args.commands.now)
+    (g.C.Commands.whole c.args.commands.now) (g.C.Commands.begun c.args.commands.now) c.refuse_input.result
+    (setting_of g.I.Source g.O.Sink g.E.Sink g.D.Disk c.args.input.now c.args.out.now c.args.err.now
+    c.args.disk.now) (setting_of g.I.Source g.O.Sink g.E.Sink g.D.Disk c.read_names.new.input c.args.out.now
+    c.refuse_input.new.err c.args.disk.now) (g.E.Sink.given c.refuse_input.new.err)
+    (g.C.Commands.takes c.args.commands.now)
+    (subst (λ (fault : TakeFault). IfSome (g.I.Source.left c.args.input.now) (λ bytes. GivesLines file_limit bytes
+    (Err fault))) c.in-Err-TooLong.field-0-is c.in-Err-TooLong.ensures.told) refl c.refuse_input.ensures.says
     (refused_causes c.refuse_input.result _ _ _ _ _ _ _ _ c.read_names.ensures.causes.later c.refuse_input.ensures)
 
 pub returns-in-Err-Failed : goal.returns-in-Err-Failed
 returns-in-Err-Failed g c =
-    batch_never (g.C.Commands.command c.args.commands.now) (g.C.Commands.fits c.args.commands.now) (g.C.Commands.whole c.args.commands.now) (g.C.Commands.begun c.args.commands.now) ends.ReadFault (setting_of g.I.Source g.O.Sink g.E.Sink g.D.Disk c.args.input.now c.args.out.now c.args.err.now c.args.disk.now) (setting_of g.I.Source g.O.Sink g.E.Sink g.D.Disk c.read_names.new.input c.args.out.now c.args.err.now c.args.disk.now) (g.C.Commands.takes c.args.commands.now) refl
-    (unread_causes ends.ReadFault _ _ _ _ _ c.read_names.ensures.causes.later (λ is. c.read_names.ensures.causes.cause (search rules)) (λ is. absurd (cc)) (λ is. absurd (cc)))
+    batch_never (g.C.Commands.command c.args.commands.now) (g.C.Commands.fits c.args.commands.now)
+    (g.C.Commands.whole c.args.commands.now) (g.C.Commands.begun c.args.commands.now) ends.ReadFault
+    (setting_of g.I.Source g.O.Sink g.E.Sink g.D.Disk c.args.input.now c.args.out.now c.args.err.now
+    c.args.disk.now) (setting_of g.I.Source g.O.Sink g.E.Sink g.D.Disk c.read_names.new.input c.args.out.now
+    c.args.err.now c.args.disk.now) (g.C.Commands.takes c.args.commands.now) refl
+    (unread_causes ends.ReadFault _ _ _ _ _ c.read_names.ensures.causes.later (λ is. c.read_names.ensures.causes.cause
+    (search rules)) (λ is. absurd (cc)) (λ is. absurd (cc)))
 
 pub returns-in-Err-Memory : goal.returns-in-Err-Memory
 returns-in-Err-Memory g c =
-    batch_never (g.C.Commands.command c.args.commands.now) (g.C.Commands.fits c.args.commands.now) (g.C.Commands.whole c.args.commands.now) (g.C.Commands.begun c.args.commands.now) ends.Memory (setting_of g.I.Source g.O.Sink g.E.Sink g.D.Disk c.args.input.now c.args.out.now c.args.err.now c.args.disk.now) (setting_of g.I.Source g.O.Sink g.E.Sink g.D.Disk c.read_names.new.input c.args.out.now c.args.err.now c.args.disk.now) (g.C.Commands.takes c.args.commands.now) refl
-    (unread_causes ends.Memory _ _ _ _ _ c.read_names.ensures.causes.later (λ is. absurd (cc)) (λ is. absurd (cc)) (λ is. absurd (cc)))
+    batch_never (g.C.Commands.command c.args.commands.now) (g.C.Commands.fits c.args.commands.now)
+    (g.C.Commands.whole c.args.commands.now) (g.C.Commands.begun c.args.commands.now) ends.Memory
+    (setting_of g.I.Source g.O.Sink g.E.Sink g.D.Disk c.args.input.now c.args.out.now c.args.err.now
+    c.args.disk.now) (setting_of g.I.Source g.O.Sink g.E.Sink g.D.Disk c.read_names.new.input c.args.out.now
+    c.args.err.now c.args.disk.now) (g.C.Commands.takes c.args.commands.now) refl
+    (unread_causes ends.Memory _ _ _ _ _ c.read_names.ensures.causes.later (λ is. absurd (cc)) (λ is. absurd (cc))
+    (λ is. absurd (cc)))

@@ -6,29 +6,50 @@ use Rattle.sccs_batch.proofs.running.run_next.Goals as goal
 
 pub returns-in_default-clause-run : goal.returns-in_default-clause-run
 returns-in_default-clause-run g c =
-    next_never (g.C.Commands.command c.args.commands.now) (g.C.Commands.fits c.args.commands.now) (g.C.Commands.whole c.args.commands.now) (g.C.Commands.begun c.args.commands.now) c.args.number c.args.line.now c.args.tail.now
-    (quiet g.O.Sink g.E.Sink g.D.Disk c.args.out.now c.args.err.now c.args.disk.now) (g.C.Commands.takes c.args.commands.now) (g.C.Commands.might c.args.commands.now)
+    next_never (g.C.Commands.command c.args.commands.now) (g.C.Commands.fits c.args.commands.now)
+    (g.C.Commands.whole c.args.commands.now) (g.C.Commands.begun c.args.commands.now) c.args.number c.args.line.now
+    c.args.tail.now
+    (quiet g.O.Sink g.E.Sink g.D.Disk c.args.out.now c.args.err.now c.args.disk.now)
+    (g.C.Commands.takes c.args.commands.now) (g.C.Commands.might c.args.commands.now)
 
 pub returns-in-Ok-write_bad-clause-run : goal.returns-in-Ok-write_bad-clause-run
 returns-in-Ok-write_bad-clause-run g c =
-    next_bad (g.C.Commands.command c.args.commands.now) (g.C.Commands.fits c.args.commands.now) (g.C.Commands.whole c.args.commands.now) (g.C.Commands.begun c.args.commands.now) c.args.number c.args.line.now c.args.tail.now
-    (quiet g.O.Sink g.E.Sink g.D.Disk c.args.out.now c.args.err.now c.args.disk.now) (quiet g.O.Sink g.E.Sink g.D.Disk c.args.out.now c.write_bad.new.out c.args.disk.now) (sym c.in-Ok.ensures.value ∙ c.in_default-found.is) refl
-    (refl, gives_none (g.O.Sink.given c.args.out.now), c.in-Ok-write_bad.ensures.ok) (wrote_err 1 _ _ _ _ c.write_bad.ensures.later)
+    next_bad (g.C.Commands.command c.args.commands.now) (g.C.Commands.fits c.args.commands.now)
+    (g.C.Commands.whole c.args.commands.now) (g.C.Commands.begun c.args.commands.now) c.args.number c.args.line.now
+    c.args.tail.now
+    (quiet g.O.Sink g.E.Sink g.D.Disk c.args.out.now c.args.err.now c.args.disk.now)
+    (quiet g.O.Sink g.E.Sink g.D.Disk c.args.out.now c.write_bad.new.out c.args.disk.now) (sym c.in-Ok.ensures.value
+    ∙ c.in_default-found.is) refl
+    (refl, gives_none (g.O.Sink.given c.args.out.now), c.in-Ok-write_bad.ensures.ok)
+    (wrote_err 1 _ _ _ _ c.write_bad.ensures.later)
 
 pub returns-in-Err-clause-run : goal.returns-in-Err-clause-run
 returns-in-Err-clause-run g c =
-    next_unsaid (g.C.Commands.command c.args.commands.now) (g.C.Commands.fits c.args.commands.now) (g.C.Commands.whole c.args.commands.now) (g.C.Commands.begun c.args.commands.now) c.args.number c.args.line.now c.args.tail.now
-    (quiet g.O.Sink g.E.Sink g.D.Disk c.args.out.now c.args.err.now c.args.disk.now) (quiet g.O.Sink g.E.Sink g.D.Disk c.args.out.now c.write_bad.new.out c.args.disk.now) (sym c.in-Ok.ensures.value ∙ c.in_default-found.is) refl
-    (some_none (g.O.Sink.given c.args.out.now) [], c.in-Err.ensures.err) (cut_err _ _ _ _ c.write_bad.ensures.later c.in-Err.ensures.cause)
+    next_unsaid (g.C.Commands.command c.args.commands.now) (g.C.Commands.fits c.args.commands.now)
+    (g.C.Commands.whole c.args.commands.now) (g.C.Commands.begun c.args.commands.now) c.args.number c.args.line.now
+    c.args.tail.now
+    (quiet g.O.Sink g.E.Sink g.D.Disk c.args.out.now c.args.err.now c.args.disk.now)
+    (quiet g.O.Sink g.E.Sink g.D.Disk c.args.out.now c.write_bad.new.out c.args.disk.now) (sym c.in-Ok.ensures.value
+    ∙ c.in_default-found.is) refl
+    (some_none (g.O.Sink.given c.args.out.now) [], c.in-Err.ensures.err)
+    (cut_err _ _ _ _ c.write_bad.ensures.later c.in-Err.ensures.cause)
 
 pub returns-in-Ok-run_entry-clause-run : goal.returns-in-Ok-run_entry-clause-run
 returns-in-Ok-run_entry-clause-run g c =
-    next_run (g.C.Commands.command c.args.commands.now) (g.C.Commands.fits c.args.commands.now) (g.C.Commands.whole c.args.commands.now) (g.C.Commands.begun c.args.commands.now) c.args.number c.args.line.now c.args.tail.now c.in-Some.found c.in-Ok-run_entry.field-0
-    (quiet g.O.Sink g.E.Sink g.D.Disk c.args.out.now c.args.err.now c.args.disk.now) (quiet g.O.Sink g.E.Sink g.D.Disk c.run_entry.new.out c.run_entry.new.err c.run_entry.new.disk) (sym c.in-Ok.ensures.value ∙ c.in-Some.is) (search rules)
+    next_run (g.C.Commands.command c.args.commands.now) (g.C.Commands.fits c.args.commands.now)
+    (g.C.Commands.whole c.args.commands.now) (g.C.Commands.begun c.args.commands.now) c.args.number c.args.line.now
+    c.args.tail.now c.in-Some.found c.in-Ok-run_entry.field-0
+    (quiet g.O.Sink g.E.Sink g.D.Disk c.args.out.now c.args.err.now c.args.disk.now)
+    (quiet g.O.Sink g.E.Sink g.D.Disk c.run_entry.new.out c.run_entry.new.err c.run_entry.new.disk)
+    (sym c.in-Ok.ensures.value ∙ c.in-Some.is) (search rules)
     (g.C.Commands.takes c.args.commands.now) c.in-Ok-run_entry.ensures
 
 pub returns-clause-run : goal.returns-clause-run
 returns-clause-run g c =
-    next_cut (g.C.Commands.command c.args.commands.now) (g.C.Commands.fits c.args.commands.now) (g.C.Commands.whole c.args.commands.now) (g.C.Commands.begun c.args.commands.now) c.args.number c.args.line.now c.args.tail.now c.in-Some.found c.in-Err-run_entry.fault
-    (quiet g.O.Sink g.E.Sink g.D.Disk c.args.out.now c.args.err.now c.args.disk.now) (quiet g.O.Sink g.E.Sink g.D.Disk c.run_entry.new.out c.run_entry.new.err c.run_entry.new.disk) (sym c.in-Ok.ensures.value ∙ c.in-Some.is)
+    next_cut (g.C.Commands.command c.args.commands.now) (g.C.Commands.fits c.args.commands.now)
+    (g.C.Commands.whole c.args.commands.now) (g.C.Commands.begun c.args.commands.now) c.args.number c.args.line.now
+    c.args.tail.now c.in-Some.found c.in-Err-run_entry.fault
+    (quiet g.O.Sink g.E.Sink g.D.Disk c.args.out.now c.args.err.now c.args.disk.now)
+    (quiet g.O.Sink g.E.Sink g.D.Disk c.run_entry.new.out c.run_entry.new.err c.run_entry.new.disk)
+    (sym c.in-Ok.ensures.value ∙ c.in-Some.is)
     (g.C.Commands.takes c.args.commands.now) c.in-Err-run_entry.ensures

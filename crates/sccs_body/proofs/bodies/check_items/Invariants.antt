@@ -14,7 +14,8 @@ invariant-items g l = record {
   name : l.body.lines.name ≡ l.fn.body.lines.name;
   limit : l.body.lines.limit ≡ l.fn.body.lines.limit;
   stays : Stays (bytes_in (seen (g.D.Disk.told l.fn.disk)) l.fn.body.lines.name) l.fn.body.lines l.body.lines;
-  reached : (live : List ℕ) → HasBehind live [] l.fn.body → Somewhere (bytes_in (seen (g.D.Disk.told l.fn.disk)) l.fn.body.lines.name) live l.fn.body l.body;
+  reached : (live : List ℕ) → HasBehind live [] l.fn.body
+      → Somewhere (bytes_in (seen (g.D.Disk.told l.fn.disk)) l.fn.body.lines.name) live l.fn.body l.body;
 }
 
 abbrev pub decreases-items : goal.decreases-items

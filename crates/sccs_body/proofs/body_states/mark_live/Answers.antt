@@ -13,8 +13,11 @@ bounds-lives-record c =
     let i : ℕ = c.loop-record.record-index in
     let r : Record = c.record-item.result in
     let rest : List Record = drop (i + 1) all in
-    let first : drop i all ≡ r ∷ rest = drop_more all i r c.loop-record-test.true ∙ ap (λ x. x ∷ rest) (sym c.record-item.is) in
-    let here : has (live_serials (drop i all)) r.serial ≡ true = ap (λ l. has (live_serials l) r.serial) first ∙ head_lives r rest c.if-not-record.true in
+    let first : drop i all ≡ r ∷ rest = drop_more all i r c.loop-record-test.true
+    ∙ ap (λ x. x ∷ rest) (sym c.record-item.is) in
+    let here : has (live_serials (drop i all)) r.serial ≡ true = ap (λ l. has (live_serials l) r.serial) first
+    ∙ head_lives r rest c.if-not-record.true in
     let lives : has (live_serials all) r.serial ≡ true =
-    sym (c.loop-record.invariant.1 r.serial) ∙ (ap (λ t. get_or c.loop-record.lives r.serial false || t) here ∙ or-true (get_or c.loop-record.lives r.serial false)) in
+    sym (c.loop-record.invariant.1 r.serial) ∙ (ap (λ t. get_or c.loop-record.lives r.serial false || t) here
+    ∙ or-true (get_or c.loop-record.lives r.serial false)) in
     omega (arith, c.requires.within r.serial lives, c.loop-record.invariant.0)

@@ -5,4 +5,6 @@ use Rattle.sccs_body.proofs.body_states.mark_live.Given as goal
 
 -- the serials so far are marked, and those of the rest are still to come
 abbrev pub invariant-loop-record : goal.invariant-loop-record
-invariant-loop-record l = (length l.lives ≡ length l.initial.lives) × ((n : ℕ) → (slice_index_or l.lives n false || has (live_serials (drop l.record-index l.records)) n) ≡ has (live_serials l.records) n)
+invariant-loop-record l = (length l.lives ≡ length l.initial.lives)
+    × ((n : ℕ) → (slice_index_or l.lives n false || has (live_serials (drop l.record-index l.records)) n) ≡ has
+    (live_serials l.records) n)

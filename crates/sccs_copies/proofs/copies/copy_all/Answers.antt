@@ -11,50 +11,73 @@ pub items-init : goal.items-init
 items-init g c = record {
   puts = some_none c.args.out.now (g.D.Disk.told c.args.disk.now) (g.D.Disk.faults c.args.disk.now);
   name = refl;
-  goes = λ live begun. on_none g.F.BodyFilter.filter live [] c.args.copying.now c.args.out.now (g.D.Disk.told c.args.disk.now) begun.behind begun.stands;
-  told = λ file items is come. copies_none g.F.BodyFilter.filter file items c.args.copying.now c.args.out.now (g.D.Disk.told c.args.disk.now) come;
+  goes = λ live begun. on_none g.F.BodyFilter.filter live [] c.args.copying.now c.args.out.now
+      (g.D.Disk.told c.args.disk.now) begun.behind begun.stands;
+  told = λ file items is come. copies_none g.F.BodyFilter.filter file items c.args.copying.now c.args.out.now
+      (g.D.Disk.told c.args.disk.now) come;
 }
 
 pub items-preserved : goal.items-preserved
 items-preserved g c = record {
-  puts = some_both c.args.out.now c.items.out c.copy_next.new.out _ _ _ _ _ _ (Ok tt) tt (Ok tt) refl c.items.invariant.puts (some_as c.items.out c.copy_next.new.out _ _ _ _ c.in-Ok-true.field-0 tt c.in-Ok-true.ensures.puts);
+  puts = some_both c.args.out.now c.items.out c.copy_next.new.out _ _ _ _ _ _ (Ok tt) tt
+      (Ok tt) refl c.items.invariant.puts (some_as c.items.out c.copy_next.new.out _ _ _ _ c.in-Ok-true.field-0 tt
+      c.in-Ok-true.ensures.puts);
   name = c.in-Ok-true.ensures.read ∙ c.items.invariant.name;
   goes = λ live begun.
       let p = c.items.invariant.goes live begun in
-      on_both g.F.BodyFilter.filter live [] c.args.copying.now c.items.copying c.copy_next.new.copying c.args.out.now c.items.out c.copy_next.new.out _ _ _ p
-      (subst (λ more. CopiesItem g.F.BodyFilter.filter live p.some.after c.items.copying c.copy_next.new.copying c.items.out c.copy_next.new.out (g.D.Disk.told c.items.disk) (g.D.Disk.told c.copy_next.new.disk) (Ok more)) c.in-Ok-true.field-0-test
+      on_both g.F.BodyFilter.filter live [] c.args.copying.now c.items.copying c.copy_next.new.copying c.args.out.now
+      c.items.out c.copy_next.new.out _ _ _ p
+      (subst (λ more. CopiesItem g.F.BodyFilter.filter live p.some.after c.items.copying c.copy_next.new.copying
+      c.items.out c.copy_next.new.out (g.D.Disk.told c.items.disk) (g.D.Disk.told c.copy_next.new.disk) (Ok more))
+      c.in-Ok-true.field-0-test
       (c.in-Ok-true.ensures.goes live p.some.after p.behind p.some.put.filters.behind));
   told = λ file items is come.
-      let here = ap (bytes_in (seen (g.D.Disk.told c.items.disk))) c.items.invariant.name ∙ bytes_stay c.args.out.now.name _ file _ _ c.requires.apart c.items.invariant.puts.only.view is in
+      let here = ap (bytes_in (seen (g.D.Disk.told c.items.disk))) c.items.invariant.name
+      ∙ bytes_stay c.args.out.now.name _ file _ _ c.requires.apart c.items.invariant.puts.only.view is in
       let p = c.items.invariant.told file items is come in
-      copies_both g.F.BodyFilter.filter file items c.args.copying.now c.items.copying c.copy_next.new.copying c.args.out.now c.items.out c.copy_next.new.out _ _ _ p
-      (subst (λ more. CopiesNext g.F.BodyFilter.filter file p.rest c.items.copying c.copy_next.new.copying c.items.out c.copy_next.new.out (g.D.Disk.told c.items.disk) (g.D.Disk.told c.copy_next.new.disk) (Ok more)) c.in-Ok-true.field-0-test
+      copies_both g.F.BodyFilter.filter file items c.args.copying.now c.items.copying c.copy_next.new.copying
+      c.args.out.now c.items.out c.copy_next.new.out _ _ _ p
+      (subst (λ more. CopiesNext g.F.BodyFilter.filter file p.rest c.items.copying c.copy_next.new.copying c.items.out
+      c.copy_next.new.out (g.D.Disk.told c.items.disk) (g.D.Disk.told c.copy_next.new.disk) (Ok more))
+      c.in-Ok-true.field-0-test
       (c.in-Ok-true.ensures.told file p.rest here p.on));
 }
 
 pub returns-in-Ok-false-clause-puts : goal.returns-in-Ok-false-clause-puts
-returns-in-Ok-false-clause-puts g c = some_both c.args.out.now c.items.out c.copy_next.new.out _ _ _ _ _ _ (Ok tt) tt (Ok tt) refl c.items.invariant.puts (some_as c.items.out c.copy_next.new.out _ _ _ _ c.in-Ok-false.field-0 tt c.in-Ok-false.ensures.puts)
+returns-in-Ok-false-clause-puts g c = some_both c.args.out.now c.items.out c.copy_next.new.out _ _ _ _ _ _ (Ok tt) tt
+    (Ok tt) refl c.items.invariant.puts (some_as c.items.out c.copy_next.new.out _ _ _ _ c.in-Ok-false.field-0 tt
+    c.in-Ok-false.ensures.puts)
 
 pub returns-in-Ok-false-clause-goes : goal.returns-in-Ok-false-clause-goes
 returns-in-Ok-false-clause-goes g c = λ live begun.
     let p = c.items.invariant.goes live begun in
-    body_both g.F.BodyFilter.filter live [] c.args.copying.now c.items.copying c.copy_next.new.copying c.args.out.now c.items.out c.copy_next.new.out _ _ _ p
-    (subst (λ more. CopiesItem g.F.BodyFilter.filter live p.some.after c.items.copying c.copy_next.new.copying c.items.out c.copy_next.new.out (g.D.Disk.told c.items.disk) (g.D.Disk.told c.copy_next.new.disk) (Ok more)) c.in-Ok-false.field-0-test
+    body_both g.F.BodyFilter.filter live [] c.args.copying.now c.items.copying c.copy_next.new.copying c.args.out.now
+    c.items.out c.copy_next.new.out _ _ _ p
+    (subst (λ more. CopiesItem g.F.BodyFilter.filter live p.some.after c.items.copying c.copy_next.new.copying
+    c.items.out c.copy_next.new.out (g.D.Disk.told c.items.disk) (g.D.Disk.told c.copy_next.new.disk) (Ok more))
+    c.in-Ok-false.field-0-test
     (c.in-Ok-false.ensures.goes live p.some.after p.behind p.some.put.filters.behind))
 
 pub returns-in-Ok-false-clause-told : goal.returns-in-Ok-false-clause-told
 returns-in-Ok-false-clause-told g c = λ file items is come.
-    let here = ap (bytes_in (seen (g.D.Disk.told c.items.disk))) c.items.invariant.name ∙ bytes_stay c.args.out.now.name _ file _ _ c.requires.apart c.items.invariant.puts.only.view is in
+    let here = ap (bytes_in (seen (g.D.Disk.told c.items.disk))) c.items.invariant.name
+    ∙ bytes_stay c.args.out.now.name _ file _ _ c.requires.apart c.items.invariant.puts.only.view is in
     let p = c.items.invariant.told file items is come in
-    copies_end g.F.BodyFilter.filter file items c.args.copying.now c.items.copying c.copy_next.new.copying.filter c.args.out.now c.items.out c.copy_next.new.out _ _ _ p
-    (subst (λ more. CopiesNext g.F.BodyFilter.filter file p.rest c.items.copying c.copy_next.new.copying c.items.out c.copy_next.new.out (g.D.Disk.told c.items.disk) (g.D.Disk.told c.copy_next.new.disk) (Ok more)) c.in-Ok-false.field-0-test
+    copies_end g.F.BodyFilter.filter file items c.args.copying.now c.items.copying c.copy_next.new.copying.filter
+    c.args.out.now c.items.out c.copy_next.new.out _ _ _ p
+    (subst (λ more. CopiesNext g.F.BodyFilter.filter file p.rest c.items.copying c.copy_next.new.copying c.items.out
+    c.copy_next.new.out (g.D.Disk.told c.items.disk) (g.D.Disk.told c.copy_next.new.disk) (Ok more))
+    c.in-Ok-false.field-0-test
     (c.in-Ok-false.ensures.told file p.rest here p.on))
 
 pub returns-in-Err-clause-puts : goal.returns-in-Err-clause-puts
-returns-in-Err-clause-puts g c = some_both c.args.out.now c.items.out c.copy_next.new.out _ _ _ _ _ _ (Ok tt) tt _ refl c.items.invariant.puts (some_err c.items.out c.copy_next.new.out _ _ _ _ c.in-Err.fault c.in-Err.ensures.puts)
+returns-in-Err-clause-puts g c = some_both c.args.out.now c.items.out c.copy_next.new.out _ _ _ _ _ _
+    (Ok tt) tt _ refl c.items.invariant.puts (some_err c.items.out c.copy_next.new.out _ _ _ _ c.in-Err.fault
+    c.in-Err.ensures.puts)
 
 pub returns-in-Err-clause-told : goal.returns-in-Err-clause-told
 returns-in-Err-clause-told g c = λ file items is come.
-    let here = ap (bytes_in (seen (g.D.Disk.told c.items.disk))) c.items.invariant.name ∙ bytes_stay c.args.out.now.name _ file _ _ c.requires.apart c.items.invariant.puts.only.view is in
+    let here = ap (bytes_in (seen (g.D.Disk.told c.items.disk))) c.items.invariant.name
+    ∙ bytes_stay c.args.out.now.name _ file _ _ c.requires.apart c.items.invariant.puts.only.view is in
     let p = c.items.invariant.told file items is come in
     c.in-Err.ensures.told file p.rest here p.on

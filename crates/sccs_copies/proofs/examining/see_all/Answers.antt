@@ -15,7 +15,9 @@ lines-init g c = record {
   read = refl;
   plan = refl;
   few = c.requires;
-  told = λ file lines is coming few. examines_none file c.args.version.now (bytes_in (seen (g.D.Disk.told c.args.disk.now)) c.args.check.now.lines.name) lines c.args.at.now c.args.check.now coming;
+  told = λ file lines is coming few. examines_none file c.args.version.now
+      (bytes_in (seen (g.D.Disk.told c.args.disk.now)) c.args.check.now.lines.name) lines c.args.at.now c.args.check.now
+      coming;
 }
 
 pub lines-preserved : goal.lines-preserved
@@ -28,26 +30,42 @@ lines-preserved g c = record {
   few = c.in-Ok-true.ensures.few;
   told = λ file lines is coming few.
       let p = c.lines.invariant.told file lines is coming few in
-      let here = ap (λ t. bytes_in (seen t) (name_of c.lines.version)) c.lines.invariant.same ∙ (ap (bytes_in (seen (g.D.Disk.told c.args.disk.now))) c.lines.invariant.read ∙ is) in
-      let beside = ap (λ t. bytes_in (seen t) c.lines.check.lines.name) c.lines.invariant.same ∙ ap (bytes_in (seen (g.D.Disk.told c.args.disk.now))) c.lines.invariant.name in
-      examines_both file c.lines.version c.see_next.new.version _ lines c.args.at.now c.lines.at c.see_next.new.at c.args.check.now c.lines.check c.see_next.new.check c.lines.invariant.plan p
-      (subst (λ more. ExaminesNext file c.see_next.new.version (bytes_in (seen (g.D.Disk.told c.args.disk.now)) c.args.check.now.lines.name) p.rest c.lines.at c.see_next.new.at c.lines.check c.see_next.new.check (Ok more)) c.in-Ok-true.field-0-test
-      (subst (λ t. ExaminesNext file c.see_next.new.version t p.rest c.lines.at c.see_next.new.at c.lines.check c.see_next.new.check (Ok c.in-Ok-true.field-0)) beside
-      (c.in-Ok-true.ensures.told file p.rest here p.on (examines_few file c.lines.version _ lines c.args.at.now c.lines.at c.args.check.now c.lines.check file_limit p few))));
+      let here = ap (λ t. bytes_in (seen t) (name_of c.lines.version)) c.lines.invariant.same
+      ∙ (ap (bytes_in (seen (g.D.Disk.told c.args.disk.now))) c.lines.invariant.read ∙ is) in
+      let beside = ap (λ t. bytes_in (seen t) c.lines.check.lines.name) c.lines.invariant.same
+      ∙ ap (bytes_in (seen (g.D.Disk.told c.args.disk.now))) c.lines.invariant.name in
+      examines_both file c.lines.version c.see_next.new.version _ lines c.args.at.now c.lines.at c.see_next.new.at
+      c.args.check.now c.lines.check c.see_next.new.check c.lines.invariant.plan p
+      (subst (λ more. ExaminesNext file c.see_next.new.version (bytes_in (seen (g.D.Disk.told c.args.disk.now))
+      c.args.check.now.lines.name) p.rest c.lines.at c.see_next.new.at c.lines.check c.see_next.new.check (Ok more))
+      c.in-Ok-true.field-0-test
+      (subst (λ t. ExaminesNext file c.see_next.new.version t p.rest c.lines.at c.see_next.new.at c.lines.check
+      c.see_next.new.check (Ok c.in-Ok-true.field-0)) beside
+      (c.in-Ok-true.ensures.told file p.rest here p.on (examines_few file c.lines.version _ lines c.args.at.now
+      c.lines.at c.args.check.now c.lines.check file_limit p few))));
 }
 
 pub returns-in-Ok-false-clause-told : goal.returns-in-Ok-false-clause-told
 returns-in-Ok-false-clause-told g c = λ file lines is coming few.
     let p = c.lines.invariant.told file lines is coming few in
-    let here = ap (λ t. bytes_in (seen t) (name_of c.lines.version)) c.lines.invariant.same ∙ (ap (bytes_in (seen (g.D.Disk.told c.args.disk.now))) c.lines.invariant.read ∙ is) in
-    let beside = ap (λ t. bytes_in (seen t) c.lines.check.lines.name) c.lines.invariant.same ∙ ap (bytes_in (seen (g.D.Disk.told c.args.disk.now))) c.lines.invariant.name in
-    examines_end file c.lines.version _ lines c.args.at.now c.lines.at c.see_next.new.at c.args.check.now c.lines.check c.see_next.new.check c.lines.invariant.plan p
-    (subst (λ more. ExaminesNext file c.see_next.new.version (bytes_in (seen (g.D.Disk.told c.args.disk.now)) c.args.check.now.lines.name) p.rest c.lines.at c.see_next.new.at c.lines.check c.see_next.new.check (Ok more)) c.in-Ok-false.field-0-test
-    (subst (λ t. ExaminesNext file c.see_next.new.version t p.rest c.lines.at c.see_next.new.at c.lines.check c.see_next.new.check (Ok c.in-Ok-false.field-0)) beside
-    (c.in-Ok-false.ensures.told file p.rest here p.on (examines_few file c.lines.version _ lines c.args.at.now c.lines.at c.args.check.now c.lines.check file_limit p few))))
+    let here = ap (λ t. bytes_in (seen t) (name_of c.lines.version)) c.lines.invariant.same
+    ∙ (ap (bytes_in (seen (g.D.Disk.told c.args.disk.now))) c.lines.invariant.read ∙ is) in
+    let beside = ap (λ t. bytes_in (seen t) c.lines.check.lines.name) c.lines.invariant.same
+    ∙ ap (bytes_in (seen (g.D.Disk.told c.args.disk.now))) c.lines.invariant.name in
+    examines_end file c.lines.version _ lines c.args.at.now c.lines.at c.see_next.new.at c.args.check.now c.lines.check
+    c.see_next.new.check c.lines.invariant.plan p
+    (subst (λ more. ExaminesNext file c.see_next.new.version (bytes_in (seen (g.D.Disk.told c.args.disk.now))
+    c.args.check.now.lines.name) p.rest c.lines.at c.see_next.new.at c.lines.check c.see_next.new.check (Ok more))
+    c.in-Ok-false.field-0-test
+    (subst (λ t. ExaminesNext file c.see_next.new.version t p.rest c.lines.at c.see_next.new.at c.lines.check
+    c.see_next.new.check (Ok c.in-Ok-false.field-0)) beside
+    (c.in-Ok-false.ensures.told file p.rest here p.on (examines_few file c.lines.version _ lines c.args.at.now
+    c.lines.at c.args.check.now c.lines.check file_limit p few))))
 
 pub returns-in-Err-clause-told : goal.returns-in-Err-clause-told
 returns-in-Err-clause-told g c = λ file lines is coming few.
     let p = c.lines.invariant.told file lines is coming few in
-    let here = ap (λ t. bytes_in (seen t) (name_of c.lines.version)) c.lines.invariant.same ∙ (ap (bytes_in (seen (g.D.Disk.told c.args.disk.now))) c.lines.invariant.read ∙ is) in
-    c.in-Err.ensures.told file p.rest here p.on (examines_few file c.lines.version _ lines c.args.at.now c.lines.at c.args.check.now c.lines.check file_limit p few)
+    let here = ap (λ t. bytes_in (seen t) (name_of c.lines.version)) c.lines.invariant.same
+    ∙ (ap (bytes_in (seen (g.D.Disk.told c.args.disk.now))) c.lines.invariant.read ∙ is) in
+    c.in-Err.ensures.told file p.rest here p.on (examines_few file c.lines.version _ lines c.args.at.now c.lines.at
+    c.args.check.now c.lines.check file_limit p few)

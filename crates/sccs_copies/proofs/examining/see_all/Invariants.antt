@@ -17,9 +17,11 @@ invariant-lines g l = record {
   read : name_of l.version ≡ name_of l.fn.version;
   plan : l.at.plan ≡ l.fn.at.plan;
   few : l.at.line ≤ file_limit;
-  told : (file : List ℕ) (lines : List HistoryLine) → bytes_in (seen (g.D.Disk.told l.fn.disk)) (name_of l.fn.version) ≡ Some file
+  told : (file : List ℕ) (lines : List HistoryLine) → bytes_in (seen (g.D.Disk.told l.fn.disk)) (name_of l.fn.version)
+      ≡ Some file
       → Coming file l.fn.version lines → l.fn.at.line + length lines ≤ file_limit
-      → ExaminesSome file l.version (bytes_in (seen (g.D.Disk.told l.fn.disk)) l.fn.check.lines.name) lines l.fn.at l.at l.fn.check l.check;
+      → ExaminesSome file l.version (bytes_in (seen (g.D.Disk.told l.fn.disk)) l.fn.check.lines.name) lines l.fn.at l.at
+      l.fn.check l.check;
 }
 
 -- what is left of the file

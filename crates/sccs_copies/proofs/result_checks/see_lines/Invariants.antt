@@ -10,5 +10,6 @@ invariant-loop-line g l = record {
   same : g.D.Disk.told l.disk ≡ g.D.Disk.told l.fn.disk;
   later : g.D.Disk.faults l.fn.disk ≤ g.D.Disk.faults l.disk;
   name : l.check.lines.name ≡ l.fn.check.lines.name;
-  sees : SeesLines (bytes_in (seen (g.D.Disk.told l.fn.disk)) l.fn.check.lines.name) (take l.line-index l.lines) l.fn.check l.check;
+  sees : SeesLines (bytes_in (seen (g.D.Disk.told l.fn.disk)) l.fn.check.lines.name) (take l.line-index l.lines)
+      l.fn.check l.check;
 }

@@ -18,4 +18,5 @@ returns-in_default-clause-frame g c = record {
 
 pub returns-clause-told : goal.returns-clause-told
 returns-clause-told g c = λ file items is front are.
-    c.write_sfile.ensures.told file items is (header_comes file c.args.front.now items c.in-Ok.copying front are c.in-Ok.ensures.told)
+    c.write_sfile.ensures.told file items is (header_comes file c.args.front.now items c.in-Ok.copying front are
+    c.in-Ok.ensures.told)

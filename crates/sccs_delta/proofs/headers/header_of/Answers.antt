@@ -8,4 +8,5 @@ use Rattle.sccs_delta.proofs.headers.header_of.Goals as goal
 
 pub returns-clause-value : goal.returns-clause-value
 returns-clause-value c =
-    subst (λ (d : NewDelta). IfOk c.header_with.result (λ (h : Header). h ≡ header_with c.args.header c.args.on (map (null_delta c.args.stamp.now) c.args.nulls.now) d)) c.in_ok-delta.ensures.value c.header_with.ensures.value
+    subst (λ (d : NewDelta). IfOk c.header_with.result (λ (h : Header). h ≡ header_with c.args.header c.args.on
+    (map (null_delta c.args.stamp.now) c.args.nulls.now) d)) c.in_ok-delta.ensures.value c.header_with.ensures.value

@@ -5,4 +5,6 @@ use Rattle.sccs_delta.proofs.preparing.write_x.Goals as goal
 
 pub returns-clause-told : goal.returns-clause-told
 returns-clause-told g c = λ bytes items is come.
-    x_unwritten c.args.file.header items (x_file c.args.name.now) (seen (g.D.Disk.told c.args.disk.now)) (seen (g.D.Disk.told c.write_sfile.new.disk)) c.in-Err.fault c.from.result (c.in-Err.ensures.told bytes items is come) c.from.ensures
+    x_unwritten c.args.file.header items (x_file c.args.name.now) (seen (g.D.Disk.told c.args.disk.now))
+    (seen (g.D.Disk.told c.write_sfile.new.disk)) c.in-Err.fault c.from.result
+    (c.in-Err.ensures.told bytes items is come) c.from.ensures

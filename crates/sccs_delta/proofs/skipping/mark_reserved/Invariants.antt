@@ -7,4 +7,5 @@ use Rattle.sccs_delta.proofs.skipping.mark_reserved.Given as goal
 abbrev pub invariant-loop-sid : goal.invariant-loop-sid
 invariant-loop-sid l =
     (length l.used ≡ length l.initial.used)
-    × ((n : ℕ) → n < length l.initial.used → (slice_index_or l.used n false || list_any (is_on_trunk n) (drop l.sid-index l.reserved)) ≡ (slice_index_or l.initial.used n false || list_any (is_on_trunk n) l.reserved))
+    × ((n : ℕ) → n < length l.initial.used → (slice_index_or l.used n false || list_any (is_on_trunk n)
+    (drop l.sid-index l.reserved)) ≡ (slice_index_or l.initial.used n false || list_any (is_on_trunk n) l.reserved))

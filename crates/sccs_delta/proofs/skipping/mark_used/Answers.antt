@@ -8,4 +8,5 @@ pub returns-clause-marks : goal.returns-clause-marks
 returns-clause-marks c = λ n lt.
     c.mark_reserved.ensures.marks n (omega (arith, lt, c.mark_live.ensures.size))
     ∙ (ap (λ t. t || list_any (is_on_trunk n) c.args.reserved.now) (c.mark_live.ensures.marks n lt)
-    ∙ sym (or_assoc (slice_index_or c.args.used.now n false) (list_any (λ r. not r.removed && is_on_trunk n r.sid) c.args.records.now) (list_any (is_on_trunk n) c.args.reserved.now)))
+    ∙ sym (or_assoc (slice_index_or c.args.used.now n false) (list_any (λ r. not r.removed && is_on_trunk n r.sid)
+    c.args.records.now) (list_any (is_on_trunk n) c.args.reserved.now)))

@@ -10,5 +10,6 @@ invariant-loop-place l = record {
   within : l.kept ≤ l.place;
   few : l.pending ≤ l.place;
   pending : (s : State) → length (model_after (model_of s) (take l.place l.log)).pending ≡ l.pending;
-  names : (s : State) → names (model_after (model_of s) (take l.kept l.log)) ≡ names_at (model_after (model_of s) (take l.place l.log)) l.made;
+  names : (s : State) → names (model_after (model_of s) (take l.kept l.log)) ≡ names_at (model_after (model_of s)
+      (take l.place l.log)) l.made;
 }

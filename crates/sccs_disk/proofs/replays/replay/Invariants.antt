@@ -6,4 +6,5 @@ use Rattle.sccs_disk.proofs.replays.replay.Given as goal
 
 -- the calls so far are made
 abbrev pub invariant-loop-entry : goal.invariant-loop-entry
-invariant-loop-entry l = state_of l.directory ≡ state (model_after (model_of (state_of l.start)) (take l.entry-index l.log))
+invariant-loop-entry l = state_of l.directory ≡ state (model_after (model_of (state_of l.start))
+    (take l.entry-index l.log))

@@ -5,4 +5,5 @@ use Rattle.sccs_edit.proofs.sact.show.Goals as goal
 
 pub returns-clause-shows : goal.returns-clause-shows
 returns-clause-shows g c =
-    shows_of c.report.result _ (shows_entries c.args.heading c.args.name.now c.args.edits.now) _ _ _ _ c.in-Ok.ensures c.in-Ok-message_of.ensures (c.report.ensures.reports None)
+    shows_of c.report.result _ (shows_entries c.args.heading c.args.name.now c.args.edits.now) _ _ _ _ c.in-Ok.ensures
+    c.in-Ok-message_of.ensures (c.report.ensures.reports None)

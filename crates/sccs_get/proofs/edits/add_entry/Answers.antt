@@ -8,7 +8,8 @@ use Rattle.sccs_get.proofs.EditLaws.{all_and}
 use Rattle.sccs_get.proofs.edits.add_entry.Goals as goal
 
 pub prepare_entries-requires-clause-edits : goal.prepare_entries-requires-clause-edits
-prepare_entries-requires-clause-edits g c = subst (λ (edits : List Edit). All IsEdit edits) (sym c.in-Ok.ensures.ok) (all_and IsEdit c.args.edits c.args.edit c.requires.edits c.requires.edit)
+prepare_entries-requires-clause-edits g c = subst (λ (edits : List Edit). All IsEdit edits) (sym c.in-Ok.ensures.ok)
+    (all_and IsEdit c.args.edits c.args.edit c.requires.edits c.requires.edit)
 
 pub returns-in_default-clause-touches : goal.returns-in_default-clause-touches
 returns-in_default-clause-touches g c = same_touches (bytes_eq (q_file c.args.name.now)) _ _ refl

@@ -11,7 +11,8 @@ returns-in-DiskFault-clause-touches g c = same_touches (bytes_eq (y_file c.args.
 
 pub returns-then-not-has_y : goal.returns-then-not-has_y
 returns-then-not-has_y g c = record {
-  gives_up = kept_up c.args.has_y c.args.name.now c.args.fault (seen (g.D.Disk.told c.args.disk.now)) c.if-not-has_y.true;
+  gives_up = kept_up c.args.has_y c.args.name.now c.args.fault (seen (g.D.Disk.told c.args.disk.now))
+      c.if-not-has_y.true;
   touches = same_touches (bytes_eq (y_file c.args.name.now)) _ _ refl;
   same = λ none. refl;
   later = search rules;

@@ -7,4 +7,5 @@ use Rattle.sccs_get.proofs.steps.place.Goals as goal
 
 pub returns-then-not-writes_g-clause-others : goal.returns-then-not-writes_g-clause-others
 returns-then-not-writes_g-clause-others g c =
-    others_same (λ k. bytes_eq (y_file c.args.name.now) k || bytes_eq (drop 2 c.args.name.now) k) (g.D.Disk.told c.args.disk.now) (g.D.Disk.told c.args.disk.now) refl
+    others_same (λ k. bytes_eq (y_file c.args.name.now) k || bytes_eq (drop 2 c.args.name.now) k)
+    (g.D.Disk.told c.args.disk.now) (g.D.Disk.told c.args.disk.now) refl

@@ -10,19 +10,40 @@ use Rattle.sccs_get.proofs.steps.ready.Goals as goal
 pub returns-in_err-shown-clause-readies : goal.returns-in_err-shown-clause-readies
 returns-in_err-shown-clause-readies g c =
     let p = err_from_is_err_and c.from_residual.result c.from_residual.ensures.1 in
-    rw (p.1, p.2) (λ parsed err. text_cut c.args.get.now.words.now c.args.get.now.heading c.args.name.now (seen (g.D.Disk.told c.args.disk.now)) (seen (g.D.Disk.told c.give_version.new.disk)) c.args.located.now.front c.args.located.now.found c.in_err-shown.field-0.0 (g.O.Sink.given c.args.out.now) (g.O.Sink.given c.give_version.new.out) err c.requires.placed c.requires.no_zero (λ file items body. c.in_err-shown.ensures.gives file items err body) parsed)
+    rw (p.1, p.2) (λ parsed err. text_cut c.args.get.now.words.now c.args.get.now.heading c.args.name.now
+    (seen (g.D.Disk.told c.args.disk.now)) (seen (g.D.Disk.told c.give_version.new.disk)) c.args.located.now.front
+    c.args.located.now.found c.in_err-shown.field-0.0 (g.O.Sink.given c.args.out.now)
+    (g.O.Sink.given c.give_version.new.out) err c.requires.placed c.requires.no_zero (λ file items body.
+    c.in_err-shown.ensures.gives file items err body) parsed)
 
 pub returns-in-Ok-clause-readies : goal.returns-in-Ok-clause-readies
 returns-in-Ok-clause-readies g c = λ parsed err.
-    text_given c.args.get.now.words.now c.args.get.now.heading c.args.name.now (seen (g.D.Disk.told c.args.disk.now)) (seen (g.D.Disk.told c.give_version.new.disk)) c.args.located.now.front c.args.located.now.found c.in_ok-shown.shown (record { new_s = false; new_p = Keep; new_g = Keep; report = c.in-Ok.said.out; message = c.in-Ok.said.err }) (g.O.Sink.given c.args.out.now) (g.O.Sink.given c.give_version.new.out) err c.requires.placed c.requires.no_zero c.requires.replaced (λ file items body. c.in_ok-shown.ensures.gives file items err body) c.in-Ok.ensures.out c.in-Ok.ensures.err parsed
+    text_given c.args.get.now.words.now c.args.get.now.heading c.args.name.now (seen (g.D.Disk.told c.args.disk.now))
+    (seen (g.D.Disk.told c.give_version.new.disk)) c.args.located.now.front c.args.located.now.found
+    c.in_ok-shown.shown (record {
+      new_s = false;
+      new_p = Keep;
+      new_g = Keep;
+      report = c.in-Ok.said.out;
+      message =
+          c.in-Ok.said.err;
+    }) (g.O.Sink.given c.args.out.now) (g.O.Sink.given c.give_version.new.out) err
+    c.requires.placed c.requires.no_zero c.requires.replaced (λ file items body. c.in_ok-shown.ensures.gives file
+    items err body) c.in-Ok.ensures.out c.in-Ok.ensures.err parsed
 
 pub returns-in-Err-clause-readies : goal.returns-in-Err-clause-readies
-returns-in-Err-clause-readies g c = λ parsed err. text_unsaid c.args.get.now.words.now c.args.get.now.heading c.args.name.now (seen (g.D.Disk.told c.args.disk.now)) (seen (g.D.Disk.told c.give_version.new.disk)) c.args.located.now.front c.args.located.now.found c.in_ok-shown.shown (g.O.Sink.given c.args.out.now) (g.O.Sink.given c.give_version.new.out) err c.requires.placed c.requires.no_zero (λ file items body. c.in_ok-shown.ensures.gives file items err body) parsed
+returns-in-Err-clause-readies g c = λ parsed err. text_unsaid c.args.get.now.words.now c.args.get.now.heading
+    c.args.name.now (seen (g.D.Disk.told c.args.disk.now)) (seen (g.D.Disk.told c.give_version.new.disk))
+    c.args.located.now.front c.args.located.now.found c.in_ok-shown.shown (g.O.Sink.given c.args.out.now)
+    (g.O.Sink.given c.give_version.new.out) err c.requires.placed c.requires.no_zero (λ file items body.
+    c.in_ok-shown.ensures.gives file items err body) parsed
 
 pub returns-in-Ok-clause-says : goal.returns-in-Ok-clause-says
 returns-in-Ok-clause-says g c =
     subst (λ m. says_well c.args.get.now.words.now m ≡ true) (sym c.in-Ok.ensures.err)
-    (well_said c.args.get.now.words.now c.args.get.now.heading c.args.name.now c.args.located.now.found.include c.args.located.now.found.exclude c.args.located.now.found.sid None c.in_ok-shown.shown.lines c.in_ok-shown.shown.keywords)
+    (well_said c.args.get.now.words.now c.args.get.now.heading c.args.name.now c.args.located.now.found.include
+    c.args.located.now.found.exclude c.args.located.now.found.sid None c.in_ok-shown.shown.lines
+    c.in_ok-shown.shown.keywords)
 
 pub returns-in-Ok-clause-whole : goal.returns-in-Ok-clause-whole
 returns-in-Ok-clause-whole g c = λ text. record {

@@ -7,5 +7,6 @@ use Rattle.sccs_grammar.proofs.table_tests.share.Goals as goal
 
 pub returns : goal.returns
 returns c =
-    any_from_yields_List (λ m. has c.args.others.now m) _ _ c.any.result c.any.ensures.ran (YieldsList-from_slice c.args.numbers.now cc) (λ x b q k. search (rules, tests))
+    any_from_yields_List (λ m. has c.args.others.now m) _ _ c.any.result c.any.ensures.ran
+    (YieldsList-from_slice c.args.numbers.now cc) (λ x b q k. search (rules, tests))
     ∙ share-any c.args.numbers.now c.args.others.now

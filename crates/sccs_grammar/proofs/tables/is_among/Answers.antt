@@ -7,5 +7,6 @@ use Rattle.sccs_grammar.proofs.tables.is_among.Goals as goal
 
 pub returns : goal.returns
 returns c =
-    any_from_yields_List (λ (r : Record). r.serial == c.args.n) _ _ c.any.result c.any.ensures.ran (YieldsList-from_slice c.args.table.now cc) (λ x b q k. search (rules, tests))
+    any_from_yields_List (λ (r : Record). r.serial == c.args.n) _ _ c.any.result c.any.ensures.ran
+    (YieldsList-from_slice c.args.table.now cc) (λ x b q k. search (rules, tests))
     ∙ serials-any c.args.table.now c.args.n

@@ -8,7 +8,8 @@ use Rattle.sccs_group.proofs.calls.clear.Goals as goal
 pub returns-in-Ok-Some-clause-call : goal.returns-in-Ok-Some-clause-call
 returns-in-Ok-Some-clause-call g c =
     may_remove c.args.name.now _ (g.D.Disk.told c.size.new.self) _ _ _ c.remove.result c.size.ensures.same
-    (size_some _ c.args.name.now c.size.result _ _ c.in-Ok-Some.is c.in-Ok-Some.field-0-is c.size.ensures.ok) c.remove.ensures
+    (size_some _ c.args.name.now c.size.result _ _ c.in-Ok-Some.is c.in-Ok-Some.field-0-is c.size.ensures.ok)
+    c.remove.ensures
 
 pub returns-in-Ok-None-clause-call : goal.returns-in-Ok-None-clause-call
 returns-in-Ok-None-clause-call g c = may_same (Remove c.args.name.now) c.args.name.now _ _ c.size.ensures.same
@@ -18,7 +19,8 @@ returns-in-Err-clause-call g c = may_same (Remove c.args.name.now) c.args.name.n
 
 pub returns-in-Ok-Some-clause-touches : goal.returns-in-Ok-Some-clause-touches
 returns-in-Ok-Some-clause-touches g c =
-    touches_from (bytes_eq c.args.name.now) _ (g.D.Disk.told c.size.new.self) _ c.size.ensures.same (remove_touched c.args.name.now _ _ _ _ c.remove.result c.remove.ensures)
+    touches_from (bytes_eq c.args.name.now) _ (g.D.Disk.told c.size.new.self) _ c.size.ensures.same
+    (remove_touched c.args.name.now _ _ _ _ c.remove.result c.remove.ensures)
 
 pub returns-in-Ok-None-clause-touches : goal.returns-in-Ok-None-clause-touches
 returns-in-Ok-None-clause-touches g c = same_touches (bytes_eq c.args.name.now) _ _ c.size.ensures.same

@@ -9,41 +9,51 @@ returns-in_err-place_s-clause-story g c = s_named c.args.member.now _ _ c.requir
 
 pub returns-in_err-place_p-clause-story : goal.returns-in_err-place_p-clause-story
 returns-in_err-place_p-clause-story g c =
-    two_named c.args.member.now _ _ _ c.requires c.in_ok-place_s.ensures.view c.place_s.ensures.call (p_named c.args.member.now _ _ c.place_p.ensures.story)
+    two_named c.args.member.now _ _ _ c.requires c.in_ok-place_s.ensures.view c.place_s.ensures.call
+    (p_named c.args.member.now _ _ c.place_p.ensures.story)
 
 pub returns-in_err-clear_sibling-clause-story : goal.returns-in_err-clear_sibling-clause-story
 returns-in_err-clear_sibling-clause-story g c =
     two_named c.args.member.now _ _ _ c.requires c.in_ok-place_s.ensures.view c.place_s.ensures.call
-    (three_named c.args.member.now _ _ _ c.in_ok-place_p.ensures.view c.place_p.ensures.story (y_named c.args.member.now _ _ c.clear_sibling.ensures.call))
+    (three_named c.args.member.now _ _ _ c.in_ok-place_p.ensures.view c.place_p.ensures.story
+    (y_named c.args.member.now _ _ c.clear_sibling.ensures.call))
 
 pub returns-clause-story : goal.returns-clause-story
 returns-clause-story g c =
     two_named c.args.member.now _ _ _ c.requires c.in_ok-place_s.ensures.view c.place_s.ensures.call
     (three_named c.args.member.now _ _ _ c.in_ok-place_p.ensures.view c.place_p.ensures.story
-    (four_named c.args.member.now _ _ _ c.in_ok-clear_sibling.ensures.view c.clear_sibling.ensures.call c.place_g.ensures.story))
+    (four_named c.args.member.now _ _ _ c.in_ok-clear_sibling.ensures.view c.clear_sibling.ensures.call
+    c.place_g.ensures.story))
 
 pub returns-in_err-place_s-clause-halfway : goal.returns-in_err-place_s-clause-halfway
-returns-in_err-place_s-clause-halfway g c = err_of c.from_residual.result (s_part c.args.member.now _ _ c.in_err-place_s.ensures.view_err)
+returns-in_err-place_s-clause-halfway g c = err_of c.from_residual.result
+    (s_part c.args.member.now _ _ c.in_err-place_s.ensures.view_err)
 
 pub returns-in_err-place_p-clause-halfway : goal.returns-in_err-place_p-clause-halfway
-returns-in_err-place_p-clause-halfway g c = err_of c.from_residual-in_err-place_p.result (p_part c.args.member.now _ _ _ c.in_ok-place_s.ensures.view c.in_err-place_p.ensures.view_err)
+returns-in_err-place_p-clause-halfway g c = err_of c.from_residual-in_err-place_p.result
+    (p_part c.args.member.now _ _ _ c.in_ok-place_s.ensures.view c.in_err-place_p.ensures.view_err)
 
 pub returns-in_err-clear_sibling-clause-halfway : goal.returns-in_err-clear_sibling-clause-halfway
 returns-in_err-clear_sibling-clause-halfway g c =
-    err_of c.from_residual-in_err-clear_sibling.result (y_part c.args.member.now _ _ _ _ c.in_ok-place_s.ensures.view c.in_ok-place_p.ensures.view c.in_err-clear_sibling.ensures.view_err)
+    err_of c.from_residual-in_err-clear_sibling.result (y_part c.args.member.now _ _ _ _ c.in_ok-place_s.ensures.view
+    c.in_ok-place_p.ensures.view c.in_err-clear_sibling.ensures.view_err)
 
 pub returns-clause-halfway : goal.returns-clause-halfway
 returns-clause-halfway g c =
-    err_map c.place_g.result (g_part c.args.member.now _ _ _ _ _ c.in_ok-place_s.ensures.view c.in_ok-place_p.ensures.view c.in_ok-clear_sibling.ensures.view) c.place_g.ensures.view_err
+    err_map c.place_g.result (g_part c.args.member.now _ _ _ _ _ c.in_ok-place_s.ensures.view
+    c.in_ok-place_p.ensures.view c.in_ok-clear_sibling.ensures.view) c.place_g.ensures.view_err
 
 pub returns-in_err-place_s-clause-others : goal.returns-in_err-place_s-clause-others
 returns-in_err-place_s-clause-others g c = one_others c.args.member.now _ _ c.place_s.ensures.call
 
 pub returns-in_err-place_p-clause-others : goal.returns-in_err-place_p-clause-others
-returns-in_err-place_p-clause-others g c = two_others c.args.member.now _ _ _ c.place_s.ensures.call c.place_p.ensures.others
+returns-in_err-place_p-clause-others g c = two_others c.args.member.now _ _ _ c.place_s.ensures.call
+    c.place_p.ensures.others
 
 pub returns-in_err-clear_sibling-clause-others : goal.returns-in_err-clear_sibling-clause-others
-returns-in_err-clear_sibling-clause-others g c = three_others c.args.member.now _ _ _ _ c.place_s.ensures.call c.place_p.ensures.others c.clear_sibling.ensures.call
+returns-in_err-clear_sibling-clause-others g c = three_others c.args.member.now _ _ _ _ c.place_s.ensures.call
+    c.place_p.ensures.others c.clear_sibling.ensures.call
 
 pub returns-clause-others : goal.returns-clause-others
-returns-clause-others g c = four_others c.args.member.now _ _ _ _ _ c.place_s.ensures.call c.place_p.ensures.others c.clear_sibling.ensures.call c.place_g.ensures.others
+returns-clause-others g c = four_others c.args.member.now _ _ _ _ _ c.place_s.ensures.call c.place_p.ensures.others
+    c.clear_sibling.ensures.call c.place_g.ensures.others

@@ -9,12 +9,14 @@ use Rattle.sccs_group.proofs.calls.place_p.Goals as goal
 
 pub returns-in-Replaced-clause-story : goal.returns-in-Replaced-clause-story
 returns-in-Replaced-clause-story g c =
-    subst (λ (f : Fate). FinishesBy (λ (v : View). fate_at v c.args.name.now ≡ Some f) (g.D.Disk.told c.args.disk.now) (g.D.Disk.told c.place_q.new.disk)) (sym c.in-Replaced.is)
+    subst (λ (f : Fate). FinishesBy (λ (v : View). fate_at v c.args.name.now ≡ Some f) (g.D.Disk.told c.args.disk.now)
+    (g.D.Disk.told c.place_q.new.disk)) (sym c.in-Replaced.is)
     (q_story c.args.name.now _ _ c.requires c.place_q.ensures.call)
 
 pub returns-in-Removed-clause-story : goal.returns-in-Removed-clause-story
 returns-in-Removed-clause-story g c =
-    subst (λ (f : Fate). FinishesBy (λ (v : View). fate_at v c.args.name.now ≡ Some f) (g.D.Disk.told c.args.disk.now) (g.D.Disk.told c.clear_sibling.new.disk)) (sym c.in-Removed.is)
+    subst (λ (f : Fate). FinishesBy (λ (v : View). fate_at v c.args.name.now ≡ Some f) (g.D.Disk.told c.args.disk.now)
+    (g.D.Disk.told c.clear_sibling.new.disk)) (sym c.in-Removed.is)
     (p_story c.args.name.now _ _ c.requires c.clear_sibling.ensures.call)
 
 pub returns-in-Replaced-clause-others : goal.returns-in-Replaced-clause-others

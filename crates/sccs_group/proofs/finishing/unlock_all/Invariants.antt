@@ -12,9 +12,12 @@ use Rattle.sccs_group.proofs.finishing.unlock_all.Given as goal
 -- what is done with the rest from here is done with all from the start
 abbrev pub invariant-loop-member : goal.invariant-loop-member
 invariant-loop-member g l = record {
-  view : (o : Option View) → Becomes (each_by unlocked (drop l.member-index l.fn.members)) (seen (g.D.Disk.told l.disk)) o → Becomes (each_by unlocked l.fn.members) (seen (g.D.Disk.told l.fn.disk)) o;
-  moves : Moves (is_lock_of l.fn.members) (λ (v : View). v) (seen (g.D.Disk.told l.fn.disk)) (seen (g.D.Disk.told l.disk));
-  story : (t : Told) → FinishesBy (AreUnlocked (drop l.member-index l.fn.members)) (g.D.Disk.told l.disk) t → FinishesBy (AreUnlocked l.fn.members) (g.D.Disk.told l.fn.disk) t;
+  view : (o : Option View) → Becomes (each_by unlocked (drop l.member-index l.fn.members)) (seen (g.D.Disk.told l.disk))
+      o → Becomes (each_by unlocked l.fn.members) (seen (g.D.Disk.told l.fn.disk)) o;
+  moves : Moves (is_lock_of l.fn.members) (λ (v : View). v) (seen (g.D.Disk.told l.fn.disk))
+      (seen (g.D.Disk.told l.disk));
+  story : (t : Told) → FinishesBy (AreUnlocked (drop l.member-index l.fn.members)) (g.D.Disk.told l.disk) t
+      → FinishesBy (AreUnlocked l.fn.members) (g.D.Disk.told l.fn.disk) t;
   others : KeepsOthers (is_lock_of l.fn.members) (g.D.Disk.told l.fn.disk) (g.D.Disk.told l.disk);
   later : g.D.Disk.faults l.fn.disk ≤ g.D.Disk.faults l.disk;
 }

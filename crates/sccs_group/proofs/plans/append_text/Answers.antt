@@ -6,18 +6,22 @@ use Rattle.sccs_group.proofs.plans.append_text.Goals as goal
 
 pub returns-in-Ok-sync-clause-only : goal.returns-in-Ok-sync-clause-only
 returns-in-Ok-sync-clause-only g c =
-    only_both c.args.name.now _ (g.D.Disk.told c.append.new.self) _ (append_only c.args.name.now c.args.text.now _ _ _ _ c.append.result c.append.ensures) (sync_only c.args.name.now _ _ _ _ c.sync.result c.sync.ensures)
+    only_both c.args.name.now _ (g.D.Disk.told c.append.new.self) _ (append_only c.args.name.now c.args.text.now _ _ _ _
+    c.append.result c.append.ensures) (sync_only c.args.name.now _ _ _ _ c.sync.result c.sync.ensures)
 
 pub returns-in-Ok-sync-clause-firm : goal.returns-in-Ok-sync-clause-firm
 returns-in-Ok-sync-clause-firm g c =
-    firm_after c.args.name.now _ (g.D.Disk.told c.append.new.self) _ (append_only c.args.name.now c.args.text.now _ _ _ _ c.append.result c.append.ensures) (sync_firm c.args.name.now _ _ c.in-Ok-sync.ensures.done)
+    firm_after c.args.name.now _ (g.D.Disk.told c.append.new.self) _ (append_only c.args.name.now c.args.text.now _ _ _
+    _ c.append.result c.append.ensures) (sync_firm c.args.name.now _ _ c.in-Ok-sync.ensures.done)
 
 pub returns-in-Err-sync-clause-only : goal.returns-in-Err-sync-clause-only
 returns-in-Err-sync-clause-only g c =
-    only_both c.args.name.now _ (g.D.Disk.told c.append.new.self) _ (append_only c.args.name.now c.args.text.now _ _ _ _ c.append.result c.append.ensures) (sync_only c.args.name.now _ _ _ _ c.sync.result c.sync.ensures)
+    only_both c.args.name.now _ (g.D.Disk.told c.append.new.self) _ (append_only c.args.name.now c.args.text.now _ _ _ _
+    c.append.result c.append.ensures) (sync_only c.args.name.now _ _ _ _ c.sync.result c.sync.ensures)
 
 pub returns-in-Err-clause-only : goal.returns-in-Err-clause-only
 returns-in-Err-clause-only g c = append_only c.args.name.now c.args.text.now _ _ _ _ c.append.result c.append.ensures
 
 pub sync-requires : goal.sync-requires
-sync-requires g c = (append_only c.args.name.now c.args.text.now _ _ _ _ c.append.result c.append.ensures).there c.requires
+sync-requires g c = (append_only c.args.name.now c.args.text.now _ _ _ _ c.append.result c.append.ensures).there
+    c.requires

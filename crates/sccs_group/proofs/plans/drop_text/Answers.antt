@@ -7,4 +7,5 @@ pub returns-in-Ok-clause-moves : goal.returns-in-Ok-clause-moves
 returns-in-Ok-clause-moves g c = without_moves c.args.name.now _ _ c.in-Ok.ensures.view
 
 pub returns-in-Err-clause-moves : goal.returns-in-Err-clause-moves
-returns-in-Err-clause-moves g c = may_moves (bytes_eq c.args.name.now) c.args.name.now _ _ (λ k h. h) c.in-Err.ensures.view_err
+returns-in-Err-clause-moves g c = may_moves (bytes_eq c.args.name.now) c.args.name.now _ _
+    (λ k h. h) c.in-Err.ensures.view_err

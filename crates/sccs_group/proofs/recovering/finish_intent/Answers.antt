@@ -14,25 +14,37 @@ pub finish_found-requires-clause-members : goal.finish_found-requires-clause-mem
 finish_found-requires-clause-members g c = c.in-Ok.ensures.members
 
 pub finish_found-requires-clause-told : goal.finish_found-requires-clause-told
-finish_found-requires-clause-told g c = told_found c.args.intent.now (g.D.Disk.told c.args.disk.now) (g.D.Disk.told c.read_members.new.disk) (Ok c.in-Ok.found) c.requires c.read_members.ensures.same c.in-Ok.ensures.told
+finish_found-requires-clause-told g c = told_found c.args.intent.now (g.D.Disk.told c.args.disk.now)
+    (g.D.Disk.told c.read_members.new.disk) (Ok c.in-Ok.found) c.requires c.read_members.ensures.same
+    c.in-Ok.ensures.told
 
 pub returns-in-Ok-finish_found-clause-found : goal.returns-in-Ok-finish_found-clause-found
 returns-in-Ok-finish_found-clause-found g c =
-    answer_told (seen (g.D.Disk.told c.args.disk.now)) c.in-Ok.found c.in-Ok-finish_found.answer c.in-Ok-finish_found.ensures.found
-    (told_found c.args.intent.now (g.D.Disk.told c.args.disk.now) (g.D.Disk.told c.args.disk.now) (Ok c.in-Ok.found) c.requires refl c.in-Ok.ensures.told)
+    answer_told (seen (g.D.Disk.told c.args.disk.now)) c.in-Ok.found c.in-Ok-finish_found.answer
+    c.in-Ok-finish_found.ensures.found
+    (told_found c.args.intent.now (g.D.Disk.told c.args.disk.now) (g.D.Disk.told c.args.disk.now)
+    (Ok c.in-Ok.found) c.requires refl c.in-Ok.ensures.told)
 
 pub returns-in-Ok-finish_found-clause-story : goal.returns-in-Ok-finish_found-clause-story
-returns-in-Ok-finish_found-clause-story g c = subst (λ (t : Told). FinishesBy Always t (g.D.Disk.told c.finish_found.new.disk)) c.read_members.ensures.same c.finish_found.ensures.story
+returns-in-Ok-finish_found-clause-story g c =
+    subst (λ (t : Told). FinishesBy Always t (g.D.Disk.told c.finish_found.new.disk)) c.read_members.ensures.same
+    c.finish_found.ensures.story
 
 pub returns-in-Ok-finish_found-clause-done : goal.returns-in-Ok-finish_found-clause-done
-returns-in-Ok-finish_found-clause-done g c = subst (λ (t : Told). CompletesBy Always t (g.D.Disk.told c.finish_found.new.disk)) c.read_members.ensures.same c.in-Ok-finish_found.ensures.done
+returns-in-Ok-finish_found-clause-done g c =
+    subst (λ (t : Told). CompletesBy Always t (g.D.Disk.told c.finish_found.new.disk)) c.read_members.ensures.same
+    c.in-Ok-finish_found.ensures.done
 
 pub returns-in-Ok-clause-story : goal.returns-in-Ok-clause-story
-returns-in-Ok-clause-story g c = subst (λ (t : Told). FinishesBy Always t (g.D.Disk.told c.finish_found.new.disk)) c.read_members.ensures.same c.finish_found.ensures.story
+returns-in-Ok-clause-story g c = subst (λ (t : Told). FinishesBy Always t (g.D.Disk.told c.finish_found.new.disk))
+    c.read_members.ensures.same c.finish_found.ensures.story
 
 pub returns-clause-bad : goal.returns-clause-bad
-returns-clause-bad g c = λ line is.
-    (c.read_members.ensures.same, bad_told c.args.intent.now (g.D.Disk.told c.args.disk.now) (Err c.in-Err.fault) c.in-Err.fault line c.requires refl is c.in-Err.ensures.told)
+returns-clause-bad g c = λ line is. (
+  c.read_members.ensures.same,
+  bad_told c.args.intent.now (g.D.Disk.told c.args.disk.now) (Err c.in-Err.fault)
+      c.in-Err.fault line c.requires refl is c.in-Err.ensures.told,
+)
 
 pub returns-clause-story : goal.returns-clause-story
 returns-clause-story g c = by_same Always _ _ c.read_members.ensures.same
@@ -42,21 +54,26 @@ returns-clause-memory g c = λ is. c.read_members.ensures.same
 
 pub returns-in-Ok-clause-halfway : goal.returns-in-Ok-clause-halfway
 returns-in-Ok-clause-halfway g c =
-    subst (λ (t : Told). IfSome (seen t) (λ (v : View). IsHalfway (intended v) (seen t) (seen (g.D.Disk.told c.finish_found.new.disk)))) c.read_members.ensures.same c.in-Err-finish_found.ensures.halfway
+    subst (λ (t : Told). IfSome (seen t) (λ (v : View). IsHalfway (intended v) (seen t)
+    (seen (g.D.Disk.told c.finish_found.new.disk)))) c.read_members.ensures.same
+    c.in-Err-finish_found.ensures.halfway
 
 pub returns-clause-halfway : goal.returns-clause-halfway
 returns-clause-halfway g c = halfway_still _ _ (ap seen c.read_members.ensures.same)
 
 pub returns-in-Ok-finish_found-clause-others : goal.returns-in-Ok-finish_found-clause-others
 returns-in-Ok-finish_found-clause-others g c =
-    subst (λ (t : Told). IfSome (seen t) (λ (v : View). KeepsOthers (is_own_of_group (intended v)) t (g.D.Disk.told c.finish_found.new.disk))) c.read_members.ensures.same c.finish_found.ensures.others
+    subst (λ (t : Told). IfSome (seen t) (λ (v : View). KeepsOthers (is_own_of_group (intended v)) t
+    (g.D.Disk.told c.finish_found.new.disk))) c.read_members.ensures.same c.finish_found.ensures.others
 
 pub returns-in-Ok-clause-others : goal.returns-in-Ok-clause-others
 returns-in-Ok-clause-others g c =
-    subst (λ (t : Told). IfSome (seen t) (λ (v : View). KeepsOthers (is_own_of_group (intended v)) t (g.D.Disk.told c.finish_found.new.disk))) c.read_members.ensures.same c.finish_found.ensures.others
+    subst (λ (t : Told). IfSome (seen t) (λ (v : View). KeepsOthers (is_own_of_group (intended v)) t
+    (g.D.Disk.told c.finish_found.new.disk))) c.read_members.ensures.same c.finish_found.ensures.others
 
 pub returns-clause-others : goal.returns-clause-others
 returns-clause-others g c = others_still _ _ c.read_members.ensures.same
 
 pub returns-in-Ok-finish_found-clause-form : goal.returns-in-Ok-finish_found-clause-form
-returns-in-Ok-finish_found-clause-form g c = subst (λ k. IfSome (seen (g.D.Disk.told c.args.disk.now)) (λ (v : View). IsWellFormed (v k))) c.requires c.in-Ok.ensures.form
+returns-in-Ok-finish_found-clause-form g c = subst (λ k. IfSome (seen (g.D.Disk.told c.args.disk.now))
+    (λ (v : View). IsWellFormed (v k))) c.requires c.in-Ok.ensures.form

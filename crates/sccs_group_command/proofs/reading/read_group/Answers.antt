@@ -1,4 +1,5 @@
-use Rattle.std.proofs.Common.{◌≤◌, ℕ, ◌+◌, ◌-◌, List, ap, sym, subst, ◌∙◌, drop, take, length, Option, IfSome, Result, Ok, Err, arith}
+use Rattle.std.proofs.Common.{◌≤◌, ℕ, ◌+◌, ◌-◌, List, ap, sym, subst, ◌∙◌, drop, take, length, Option, IfSome, Result}
+use Rattle.std.proofs.Common.{Ok, Err, arith}
 use Rattle.std.proofs.Math.ListN.{drop_of_length-le}
 use Rattle.std.proofs.lemmas.List.{take_rest}
 use Rattle.sccs_group_command.specs.GroupText.{AddsEntry, ReadsGroup, entry_at, group_from, group_of, some_of}
@@ -8,29 +9,47 @@ use Rattle.sccs_group_command.proofs.GroupTexts.{entry_added, entry_none, within
 use Rattle.sccs_group_command.proofs.reading.read_group.Goals as goal
 
 pub entries-init : goal.entries-init
-entries-init c = record { read = ap (λ (l : List GroupEntry). group_from 0 1 l c.args.lines.now) c.empty-entries.ensures; within = omega arith }
+entries-init c = record {
+  read = ap (λ (l : List GroupEntry). group_from 0 1 l c.args.lines.now)
+      c.empty-entries.ensures;
+  within = omega arith;
+}
 
 pub entries-preserved : goal.entries-preserved
 entries-preserved c =
-    let tail : List (List ℕ) = take (length c.args.lines.now - (c.entries.at + 1)) (drop (c.entries.at + 1) c.args.lines.now) in
-    let low : c.in-Ok-Some.own ≤ length tail = subst (λ (o : Option ℕ). IfSome o (λ own. own ≤ length tail)) c.in-Ok-Some.field-0-is c.in-Ok-Some.ensures.within in
+    let tail : List (List ℕ) = take (length c.args.lines.now - (c.entries.at + 1))
+    (drop (c.entries.at + 1) c.args.lines.now) in
+    let low : c.in-Ok-Some.own ≤ length tail = subst (λ (o : Option ℕ). IfSome o (λ own. own ≤ length tail))
+    c.in-Ok-Some.field-0-is c.in-Ok-Some.ensures.within in
     record {
-      read = entry_added c.entries.entries c.add_entry.new.entries c.args.lines.now c.entries.at c.in-Ok-Some.own c.bytes-line.result.now c.index-lines-at.result tail (c.bytes-line.ensures.value ∙ c.index-lines-at.is) c.entries-test.true (take_rest c.args.lines.now (c.entries.at + 1)) low
-          (subst (λ (o : Option ℕ). AddsEntry (Ok o) (entry_at c.entries.entries c.bytes-line.result.now tail) c.entries.entries c.add_entry.new.entries) c.in-Ok-Some.field-0-is c.in-Ok-Some.ensures.adds) c.entries.invariant.read;
-      within = within_on c.args.lines.now tail c.entries.at c.in-Ok-Some.own low (take_rest c.args.lines.now (c.entries.at + 1)) c.entries-test.true;
+      read = entry_added c.entries.entries c.add_entry.new.entries c.args.lines.now c.entries.at c.in-Ok-Some.own
+          c.bytes-line.result.now c.index-lines-at.result tail (c.bytes-line.ensures.value ∙ c.index-lines-at.is)
+          c.entries-test.true (take_rest c.args.lines.now (c.entries.at + 1)) low
+          (subst (λ (o : Option ℕ). AddsEntry (Ok o) (entry_at c.entries.entries c.bytes-line.result.now tail)
+          c.entries.entries c.add_entry.new.entries) c.in-Ok-Some.field-0-is c.in-Ok-Some.ensures.adds)
+          c.entries.invariant.read;
+      within = within_on c.args.lines.now tail c.entries.at c.in-Ok-Some.own low (take_rest c.args.lines.now
+          (c.entries.at + 1)) c.entries-test.true;
     }
 
 pub returns-in-Ok-None : goal.returns-in-Ok-None
 returns-in-Ok-None c =
-    let tail : List (List ℕ) = take (length c.args.lines.now - (c.entries.at + 1)) (drop (c.entries.at + 1) c.args.lines.now) in
-    entry_none c.entries.entries c.args.lines.now c.entries.at c.bytes-line.result.now c.index-lines-at.result tail (c.bytes-line.ensures.value ∙ c.index-lines-at.is) c.entries-test.true (take_rest c.args.lines.now (c.entries.at + 1))
-    (subst (λ (o : Option ℕ). AddsEntry (Ok o) (entry_at c.entries.entries c.bytes-line.result.now tail) c.entries.entries c.add_entry.new.entries) c.in-Ok-None.field-0-is c.in-Ok-None.ensures.adds) c.entries.invariant.read
+    let tail : List (List ℕ) = take (length c.args.lines.now - (c.entries.at + 1))
+    (drop (c.entries.at + 1) c.args.lines.now) in
+    entry_none c.entries.entries c.args.lines.now c.entries.at c.bytes-line.result.now c.index-lines-at.result tail
+    (c.bytes-line.ensures.value ∙ c.index-lines-at.is) c.entries-test.true (take_rest c.args.lines.now
+    (c.entries.at + 1))
+    (subst (λ (o : Option ℕ). AddsEntry (Ok o) (entry_at c.entries.entries c.bytes-line.result.now tail)
+    c.entries.entries c.add_entry.new.entries) c.in-Ok-None.field-0-is c.in-Ok-None.ensures.adds)
+    c.entries.invariant.read
 
 pub returns-in-Err : goal.returns-in-Err
-returns-in-Err c = subst (λ (f : GroupFault). ReadsGroup (Err f) (group_of c.args.lines.now)) (sym c.in-Err.ensures.adds) tt
+returns-in-Err c = subst (λ (f : GroupFault). ReadsGroup (Err f) (group_of c.args.lines.now))
+    (sym c.in-Err.ensures.adds) tt
 
 pub returns : goal.returns
 returns c =
     subst (λ (read : Result (List GroupEntry) ℕ). ReadsGroup c.some_of.result read)
-    (sym (ap (λ (ls : List (List ℕ)). group_from 0 (c.entries.at + 1) c.entries.entries ls) (drop_of_length-le c.args.lines.now (omega (arith, c.entries-test.false)))) ∙ c.entries.invariant.read)
+    (sym (ap (λ (ls : List (List ℕ)). group_from 0 (c.entries.at + 1) c.entries.entries ls)
+    (drop_of_length-le c.args.lines.now (omega (arith, c.entries-test.false)))) ∙ c.entries.invariant.read)
     c.some_of.ensures

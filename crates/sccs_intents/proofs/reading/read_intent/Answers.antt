@@ -15,11 +15,13 @@ returns-in_default c =
 pub returns-then-ne : goal.returns-then-ne
 returns-then-ne c =
     let short : nat_lt file_limit (length c.args.bytes.now) ≡ false = search rules in
-    bad_first c.args.bytes.now c.cut_at.result.0.now c.in-Some.rest.now short c.cut_at.ensures.piece (rw c.in-Some.is at c.cut_at.ensures.rest)
+    bad_first c.args.bytes.now c.cut_at.result.0.now c.in-Some.rest.now short c.cut_at.ensures.piece
+    (rw c.in-Some.is at c.cut_at.ensures.rest)
     (not-true _ (sym c.ne.ensures ∙ c.if-ne.true))
 
 pub returns : goal.returns
 returns c =
     let short : nat_lt file_limit (length c.args.bytes.now) ≡ false = search rules in
-    good_first c.args.bytes.now c.cut_at.result.0.now c.in-Some.rest.now c.read_entries.result short c.cut_at.ensures.piece (rw c.in-Some.is at c.cut_at.ensures.rest)
+    good_first c.args.bytes.now c.cut_at.result.0.now c.in-Some.rest.now c.read_entries.result short
+    c.cut_at.ensures.piece (rw c.in-Some.is at c.cut_at.ensures.rest)
     (not_false _ (sym c.ne.ensures ∙ c.if-ne.false)) c.read_entries.ensures

@@ -8,7 +8,8 @@ use Rattle.sccs_name_files.proofs.whole_files.read_whole.Given as goal
 abbrev pub invariant-pieces : goal.invariant-pieces
 invariant-pieces g l = record {
   short : length l.all.items ≤ file_limit;
-  front : (bytes : List ℕ) → file_bytes (seen (g.D.Disk.told l.fn.disk)) l.name ≡ Some bytes → l.all.items ≡ take (length l.all.items) bytes;
+  front : (bytes : List ℕ) → file_bytes (seen (g.D.Disk.told l.fn.disk)) l.name ≡ Some bytes
+      → l.all.items ≡ take (length l.all.items) bytes;
   same : g.D.Disk.told l.disk ≡ g.D.Disk.told l.fn.disk;
   later : g.D.Disk.faults l.fn.disk ≤ g.D.Disk.faults l.disk;
 }

@@ -7,4 +7,5 @@ use Rattle.sccs_operands.proofs.listing.sfiles_among.Given as goal
 
 -- the set has the s-files' names among those so far
 abbrev pub invariant-loop-name : goal.invariant-loop-name
-invariant-loop-name l = (n : List ℕ) → list_any (bytes_eq n) (names_in l.kept) ≡ (is_sfile_name n && list_any (bytes_eq n) (take l.name-index l.names))
+invariant-loop-name l = (n : List ℕ) → list_any (bytes_eq n) (names_in l.kept) ≡ (is_sfile_name n && list_any
+    (bytes_eq n) (take l.name-index l.names))

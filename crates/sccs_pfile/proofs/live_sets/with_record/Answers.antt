@@ -10,4 +10,5 @@ returns-then-delta c = λ before has. none_more_live c.args.found before c.args.
 pub returns : goal.returns
 returns c = λ before has.
     one_more_live c.args.found.sids c.insert.new.self before c.args.delta.now c.if-delta.false
-    (subst (λ key. Updates four_cmp c.args.found.sids c.insert.new.self key true) c.sid_key.ensures c.in_ok-insert.ensures.updates) has
+    (subst (λ key. Updates four_cmp c.args.found.sids c.insert.new.self key true) c.sid_key.ensures
+    c.in_ok-insert.ensures.updates) has

@@ -16,12 +16,14 @@ returns c = λ before has.
           one_more_maker found more before c.args.edit.now has
           (ap (contains four_cmp found.some) (sym c.sid_key.ensures) ∙ (sym c.contains.ensures ∙ w.if-contains.true))
           (subst (λ s. Updates four_cmp found.several s (sid_key c.args.edit.now.made) true) (sym w.several-is)
-          (subst (λ key. Updates four_cmp found.several w.insert.new.self key true) w.sid_key-then-contains.ensures w.in_ok-insert.ensures.updates))
+          (subst (λ key. Updates four_cmp found.several w.insert.new.self key true) w.sid_key-then-contains.ensures
+          w.in_ok-insert.ensures.updates))
           w.some-is
       | else-contains+in_ok-insert-2 w ↦
           first_maker found more before c.args.edit.now has
           (ap (contains four_cmp found.some) (sym c.sid_key.ensures) ∙ (sym c.contains.ensures ∙ w.if-contains.false))
           (subst (λ s. Updates four_cmp found.some s (sid_key c.args.edit.now.made) true) (sym w.some-is)
-          (subst (λ key. Updates four_cmp found.some w.insert-else-contains.new.self key true) w.sid_key-else-contains.ensures w.in_ok-insert-2.ensures.updates))
+          (subst (λ key. Updates four_cmp found.some w.insert-else-contains.new.self key true)
+          w.sid_key-else-contains.ensures w.in_ok-insert-2.ensures.updates))
           w.several-is
     ]

@@ -14,11 +14,14 @@ lines-init c = record {
 pub lines-preserved : goal.lines-preserved
 lines-preserved c = record {
   same = ap (λ l. behind_edits l (entries_at (c.lines.number + 1) c.in-Ok.next.1.now)) c.in-Ok-push.ensures.ok
-      ∙ (sym (one_before c.lines.edits c.in-Ok.next.0 c.lines.number (entries_at (c.lines.number + 1) c.in-Ok.next.1.now))
+      ∙ (sym (one_before c.lines.edits c.in-Ok.next.0 c.lines.number
+      (entries_at (c.lines.number + 1) c.in-Ok.next.1.now))
       ∙ (ap (behind_edits c.lines.edits) c.in-Ok.ensures.value ∙ c.lines.invariant.same));
   short = omega (arith, c.lines.invariant.short, c.in-Ok.ensures.shorter);
-  valid = valid_push c.lines.edits c.push.new.self c.in-Ok.next.0 c.in-Ok-push.ensures.ok c.lines.invariant.valid c.in-Ok.ensures.valid;
+  valid = valid_push c.lines.edits c.push.new.self c.in-Ok.next.0 c.in-Ok-push.ensures.ok c.lines.invariant.valid
+      c.in-Ok.ensures.valid;
 }
 
 pub returns-clause-value : goal.returns-clause-value
-returns-clause-value c = all_read c.lines.edits c.lines.number c.lines.rest.now _ (no_bytes c.lines.rest.now (sym c.is_empty.ensures ∙ c.lines-test.false)) c.lines.invariant.same
+returns-clause-value c = all_read c.lines.edits c.lines.number c.lines.rest.now _ (no_bytes c.lines.rest.now
+    (sym c.is_empty.ensures ∙ c.lines-test.false)) c.lines.invariant.same

@@ -14,16 +14,22 @@ use Rattle.sccs_printing.proofs.givings.give_all.Given as goal
 abbrev pub invariant-lines : goal.invariant-lines
 invariant-lines g l = record {
   keeps : KeepsForm l.fn.giving l.giving;
-  reaches : Reaches (file_of l.fn.giving.target) (g.O.Sink.given l.fn.out) (g.O.Sink.given l.out) (g.D.Disk.told l.fn.disk) (g.D.Disk.told l.disk);
+  reaches : Reaches (file_of l.fn.giving.target) (g.O.Sink.given l.fn.out) (g.O.Sink.given l.out)
+      (g.D.Disk.told l.fn.disk) (g.D.Disk.told l.disk);
   mark : KeepsTargetMark (file_of l.fn.giving.target) (g.D.Disk.told l.fn.disk) (g.D.Disk.told l.disk);
   later : g.D.Disk.faults l.fn.disk ≤ g.D.Disk.faults l.disk;
   out_later : g.O.Sink.faults l.fn.out ≤ g.O.Sink.faults l.out;
   name : name_of l.version ≡ name_of l.fn.version;
   set : l.version.set ≡ l.fn.version.set;
   read : (live : List ℕ) (before : List Item) → HasRead live l.fn.version before
-      → ReadSome live l.version before l.fn.giving l.giving (target_bytes (file_of l.fn.giving.target) (g.O.Sink.given l.fn.out) (g.D.Disk.told l.fn.disk)) (target_bytes (file_of l.fn.giving.target) (g.O.Sink.given l.out) (g.D.Disk.told l.disk));
-  moved : (file : List ℕ) (lines : List HistoryLine) → bytes_in (seen (g.D.Disk.told l.fn.disk)) (name_of l.fn.version) ≡ Some file → Coming file l.fn.version lines
-      → Moved file l.version lines l.fn.giving l.giving (target_bytes (file_of l.fn.giving.target) (g.O.Sink.given l.fn.out) (g.D.Disk.told l.fn.disk)) (target_bytes (file_of l.fn.giving.target) (g.O.Sink.given l.out) (g.D.Disk.told l.disk));
+      → ReadSome live l.version before l.fn.giving l.giving (target_bytes (file_of l.fn.giving.target)
+      (g.O.Sink.given l.fn.out) (g.D.Disk.told l.fn.disk)) (target_bytes (file_of l.fn.giving.target)
+      (g.O.Sink.given l.out) (g.D.Disk.told l.disk));
+  moved : (file : List ℕ) (lines : List HistoryLine) → bytes_in (seen (g.D.Disk.told l.fn.disk)) (name_of l.fn.version)
+      ≡ Some file → Coming file l.fn.version lines
+      → Moved file l.version lines l.fn.giving l.giving (target_bytes (file_of l.fn.giving.target)
+      (g.O.Sink.given l.fn.out) (g.D.Disk.told l.fn.disk)) (target_bytes (file_of l.fn.giving.target)
+      (g.O.Sink.given l.out) (g.D.Disk.told l.disk));
 }
 
 -- what is left of the file

@@ -14,29 +14,44 @@ lines-preserved g c = record {
   name = c.in-Ok-Some.ensures.name ∙ (c.search_run-run.ensures.name ∙ c.lines.invariant.name);
   told = λ file lines told p.
       let s = c.lines.invariant.told file lines told p in
-      let run = searched_both file c.lines.version c.search_run-run.new.version lines c.lines.found c.search_run-run.result s (c.search_run-run.ensures.told file s.rest s.on) in
-      let here = ap (λ t. bytes_in (seen t) (name_of c.search_run-run.new.version)) c.lines.invariant.same ∙ (ap (bytes_in (seen (g.D.Disk.told c.args.disk.now))) (c.search_run-run.ensures.name ∙ c.lines.invariant.name) ∙ told) in
-      searched_both file c.search_run-run.new.version c.search_next.new.version lines (c.lines.found || c.search_run-run.result) c.in-Ok-Some.some run
-      (subst (λ o. SearchesNextLine file c.search_next.new.version run.rest (Ok o)) c.in-Ok-Some.field-0-is (c.in-Ok-Some.ensures.told file run.rest here run.on));
+      let run = searched_both file c.lines.version c.search_run-run.new.version lines c.lines.found
+      c.search_run-run.result s (c.search_run-run.ensures.told file s.rest s.on) in
+      let here = ap (λ t. bytes_in (seen t) (name_of c.search_run-run.new.version)) c.lines.invariant.same
+      ∙ (ap (bytes_in (seen (g.D.Disk.told c.args.disk.now))) (c.search_run-run.ensures.name
+      ∙ c.lines.invariant.name) ∙ told) in
+      searched_both file c.search_run-run.new.version c.search_next.new.version lines
+      (c.lines.found || c.search_run-run.result) c.in-Ok-Some.some run
+      (subst (λ o. SearchesNextLine file c.search_next.new.version run.rest (Ok o)) c.in-Ok-Some.field-0-is
+      (c.in-Ok-Some.ensures.told file run.rest here run.on));
 }
 
 pub returns-in-Ok-None-clause-causes : goal.returns-in-Ok-None-clause-causes
-returns-in-Ok-None-clause-causes g c = λ out. let more = (c.in-Ok-None.ensures.causes 0).disk_later in quiet_causes (c.lines.found || c.search_run-run.result) out (g.D.Disk.faults c.args.disk.now) (g.D.Disk.faults c.search_next.new.disk) (omega (arith, c.lines.invariant.later, more))
+returns-in-Ok-None-clause-causes g c = λ out. let more = (c.in-Ok-None.ensures.causes 0).disk_later in
+    quiet_causes (c.lines.found || c.search_run-run.result) out (g.D.Disk.faults c.args.disk.now)
+    (g.D.Disk.faults c.search_next.new.disk) (omega (arith, c.lines.invariant.later, more))
 
 pub returns-in-Ok-None-clause-told : goal.returns-in-Ok-None-clause-told
 returns-in-Ok-None-clause-told g c = λ file lines told p.
     let s = c.lines.invariant.told file lines told p in
-    let run = searched_both file c.lines.version c.search_run-run.new.version lines c.lines.found c.search_run-run.result s (c.search_run-run.ensures.told file s.rest s.on) in
-    let here = ap (λ t. bytes_in (seen t) (name_of c.search_run-run.new.version)) c.lines.invariant.same ∙ (ap (bytes_in (seen (g.D.Disk.told c.args.disk.now))) (c.search_run-run.ensures.name ∙ c.lines.invariant.name) ∙ told) in
+    let run = searched_both file c.lines.version c.search_run-run.new.version lines c.lines.found
+    c.search_run-run.result s (c.search_run-run.ensures.told file s.rest s.on) in
+    let here = ap (λ t. bytes_in (seen t) (name_of c.search_run-run.new.version)) c.lines.invariant.same
+    ∙ (ap (bytes_in (seen (g.D.Disk.told c.args.disk.now))) (c.search_run-run.ensures.name ∙ c.lines.invariant.name)
+    ∙ told) in
     all_searched file c.search_run-run.new.version lines (c.lines.found || c.search_run-run.result) run
-    (subst (λ o. SearchesNextLine file c.search_next.new.version run.rest (Ok o)) c.in-Ok-None.field-0-is (c.in-Ok-None.ensures.told file run.rest here run.on))
+    (subst (λ o. SearchesNextLine file c.search_next.new.version run.rest (Ok o)) c.in-Ok-None.field-0-is
+    (c.in-Ok-None.ensures.told file run.rest here run.on))
 
 pub returns-in-Err-clause-causes : goal.returns-in-Err-clause-causes
-returns-in-Err-clause-causes g c = λ out. fault_causes c.in-Err.fault out _ _ _ c.lines.invariant.later (c.in-Err.ensures.causes out)
+returns-in-Err-clause-causes g c = λ out. fault_causes c.in-Err.fault out _ _ _ c.lines.invariant.later
+    (c.in-Err.ensures.causes out)
 
 pub returns-in-Err-clause-told : goal.returns-in-Err-clause-told
 returns-in-Err-clause-told g c = λ file lines told p.
     let s = c.lines.invariant.told file lines told p in
-    let run = searched_both file c.lines.version c.search_run-run.new.version lines c.lines.found c.search_run-run.result s (c.search_run-run.ensures.told file s.rest s.on) in
-    let here = ap (λ t. bytes_in (seen t) (name_of c.search_run-run.new.version)) c.lines.invariant.same ∙ (ap (bytes_in (seen (g.D.Disk.told c.args.disk.now))) (c.search_run-run.ensures.name ∙ c.lines.invariant.name) ∙ told) in
+    let run = searched_both file c.lines.version c.search_run-run.new.version lines c.lines.found
+    c.search_run-run.result s (c.search_run-run.ensures.told file s.rest s.on) in
+    let here = ap (λ t. bytes_in (seen t) (name_of c.search_run-run.new.version)) c.lines.invariant.same
+    ∙ (ap (bytes_in (seen (g.D.Disk.told c.args.disk.now))) (c.search_run-run.ensures.name ∙ c.lines.invariant.name)
+    ∙ told) in
     c.in-Err.ensures.told file run.rest here run.on

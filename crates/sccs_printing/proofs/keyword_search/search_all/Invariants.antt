@@ -13,7 +13,8 @@ invariant-lines g l = record {
   same : g.D.Disk.told l.disk ≡ g.D.Disk.told l.fn.disk;
   later : g.D.Disk.faults l.fn.disk ≤ g.D.Disk.faults l.disk;
   name : name_of l.version ≡ name_of l.fn.version;
-  told : (file : List ℕ) (lines : List HistoryLine) → bytes_in (seen (g.D.Disk.told l.fn.disk)) (name_of l.fn.version) ≡ Some file → Coming file l.fn.version lines → Searched file l.version lines l.found;
+  told : (file : List ℕ) (lines : List HistoryLine) → bytes_in (seen (g.D.Disk.told l.fn.disk)) (name_of l.fn.version)
+      ≡ Some file → Coming file l.fn.version lines → Searched file l.version lines l.found;
 }
 
 -- what is left of the file

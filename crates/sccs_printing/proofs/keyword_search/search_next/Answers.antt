@@ -11,15 +11,20 @@ use Rattle.sccs_printing.proofs.keyword_search.search_next.Goals as goal
 
 pub returns-in-Ok-Line-clause-told : goal.returns-in-Ok-Line-clause-told
 returns-in-Ok-Line-clause-told g c = λ file lines told p.
-    line_searched file c.next.new.self c.in-Ok-Line.line lines c.has_keyword.result (c.has_keyword.ensures ∙ ap (λ text. list_any is_keyword (parts text)) c.bytes.ensures.value)
-    (subst (λ (n : Next). GivesNextLine file c.next.new.self lines (Ok n)) c.in-Ok-Line.field-0-is (c.in-Ok-Line.ensures.told file lines told p))
+    line_searched file c.next.new.self c.in-Ok-Line.line lines c.has_keyword.result (c.has_keyword.ensures
+    ∙ ap (λ text. list_any is_keyword (parts text)) c.bytes.ensures.value)
+    (subst (λ (n : Next). GivesNextLine file c.next.new.self lines (Ok n)) c.in-Ok-Line.field-0-is
+    (c.in-Ok-Line.ensures.told file lines told p))
 
 pub returns-in-Ok-Hidden-clause-told : goal.returns-in-Ok-Hidden-clause-told
 returns-in-Ok-Hidden-clause-told g c = λ file lines told p.
-    searched_none file c.next.new.self lines (subst (λ (n : Next). GivesNextLine file c.next.new.self lines (Ok n)) c.in-Ok-Hidden.field-0-is (c.in-Ok-Hidden.ensures.told file lines told p))
+    searched_none file c.next.new.self lines (subst (λ (n : Next). GivesNextLine file c.next.new.self lines (Ok n))
+    c.in-Ok-Hidden.field-0-is (c.in-Ok-Hidden.ensures.told file lines told p))
 
 pub returns-in-Ok-End-clause-told : goal.returns-in-Ok-End-clause-told
-returns-in-Ok-End-clause-told g c = λ file lines told p. subst (λ (n : Next). GivesNextLine file c.next.new.self lines (Ok n)) c.in-Ok-End.field-0-is (c.in-Ok-End.ensures.told file lines told p)
+returns-in-Ok-End-clause-told g c = λ file lines told p. subst (λ (n : Next). GivesNextLine file c.next.new.self lines
+    (Ok n)) c.in-Ok-End.field-0-is (c.in-Ok-End.ensures.told file lines told p)
 
 pub returns-in-Err-clause-told : goal.returns-in-Err-clause-told
-returns-in-Err-clause-told g c = λ file lines told p. subst IsFaultAroundPrint (sym c.from.ensures) (next_fault file c.next.new.self lines c.in-Err.fault (c.in-Err.ensures.told file lines told p))
+returns-in-Err-clause-told g c = λ file lines told p. subst IsFaultAroundPrint (sym c.from.ensures)
+    (next_fault file c.next.new.self lines c.in-Err.fault (c.in-Err.ensures.told file lines told p))

@@ -14,7 +14,8 @@ invariant-items g l = record {
   later : g.D.Disk.faults l.fn.disk ≤ g.D.Disk.faults l.disk;
   out_later : g.O.Sink.faults l.fn.out ≤ g.O.Sink.faults l.out;
   name : name_read l.items ≡ name_read l.fn.items;
-  put : (file : List ℕ) (rest : List Item) → IsToCome (bytes_in (seen (g.D.Disk.told l.fn.disk)) (name_read l.fn.items)) file rest l.fn.items
+  put : (file : List ℕ) (rest : List Item) → IsToCome (bytes_in (seen (g.D.Disk.told l.fn.disk)) (name_read l.fn.items))
+      file rest l.fn.items
       → HasPut file rest l.items l.fn.listing.buffer l.listing.buffer (g.O.Sink.given l.fn.out) (g.O.Sink.given l.out);
 }
 

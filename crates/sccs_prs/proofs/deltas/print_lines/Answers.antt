@@ -12,8 +12,17 @@ pub returns-clause-prints : goal.returns-clause-prints
 returns-clause-prints g c = λ bytes items is.
     let records = c.args.file.front.now.header.records in
     subst (λ t. GivesOk (g.O.Sink.given c.args.out.now) (g.O.Sink.given c.print_text.new.out) t)
-    (live_text (shown_file c.args.file items) c.args.delta.now c.in-Ok.set c.if-delta.false (c.in-Ok.ensures.set ∙ ap (λ (l : List ℕ). applied (record { target = c.args.delta.now.serial; include = l; exclude = l; cutoff = None }) records) c.empty-none.ensures))
-    (c.in_ok-print_text.ensures.prints bytes items (with_set (bytes_in (seen (g.D.Disk.told c.args.disk.now)) c.args.file.name.now) c.args.file.front.now bytes items c.in-Ok.set (c.in-Ok.ensures.no_zero c.requires.table) is))
+    (live_text (shown_file c.args.file items) c.args.delta.now c.in-Ok.set c.if-delta.false (c.in-Ok.ensures.set
+    ∙ ap (λ (l : List ℕ). applied (record {
+      target = c.args.delta.now.serial;
+      include = l;
+      exclude = l;
+      cutoff =
+          None;
+    }) records) c.empty-none.ensures))
+    (c.in_ok-print_text.ensures.prints bytes items
+    (with_set (bytes_in (seen (g.D.Disk.told c.args.disk.now)) c.args.file.name.now) c.args.file.front.now bytes
+    items c.in-Ok.set (c.in-Ok.ensures.no_zero c.requires.table) is))
 
 pub returns-in_err-print_text-clause-prints : goal.returns-in_err-print_text-clause-prints
 returns-in_err-print_text-clause-prints g c =
@@ -21,5 +30,14 @@ returns-in_err-print_text-clause-prints g c =
     rw (p.1, p.2) (λ bytes items is.
     let records = c.args.file.front.now.header.records in
     prints_so _ _ c.in_err-print_text.field-0.0 (g.O.Sink.given c.args.out.now) (g.O.Sink.given c.print_text.new.out)
-    (live_text (shown_file c.args.file items) c.args.delta.now c.in-Ok.set c.if-delta.false (c.in-Ok.ensures.set ∙ ap (λ (l : List ℕ). applied (record { target = c.args.delta.now.serial; include = l; exclude = l; cutoff = None }) records) c.empty-none.ensures))
-    (c.in_err-print_text.ensures.prints bytes items (with_set (bytes_in (seen (g.D.Disk.told c.args.disk.now)) c.args.file.name.now) c.args.file.front.now bytes items c.in-Ok.set (c.in-Ok.ensures.no_zero c.requires.table) is)))
+    (live_text (shown_file c.args.file items) c.args.delta.now c.in-Ok.set c.if-delta.false (c.in-Ok.ensures.set
+    ∙ ap (λ (l : List ℕ). applied (record {
+      target = c.args.delta.now.serial;
+      include = l;
+      exclude = l;
+      cutoff =
+          None;
+    }) records) c.empty-none.ensures))
+    (c.in_err-print_text.ensures.prints bytes items
+    (with_set (bytes_in (seen (g.D.Disk.told c.args.disk.now)) c.args.file.name.now) c.args.file.front.now bytes
+    items c.in-Ok.set (c.in-Ok.ensures.no_zero c.requires.table) is)))

@@ -14,6 +14,8 @@ invariant-loop-part g l = record {
   same : g.D.Disk.told l.disk ≡ g.D.Disk.told l.fn.disk;
   later : g.D.Disk.faults l.fn.disk ≤ g.D.Disk.faults l.disk;
   out_later : g.O.Sink.faults l.fn.out ≤ g.O.Sink.faults l.out;
-  gave : (bytes : List ℕ) (items : List Item) → IsListedFile (bytes_in (seen (g.D.Disk.told l.fn.disk)) l.fn.file.name.now) l.fn.file.front.now bytes items
-      → Buffers l.fn.listing.buffer (flat_map (data_text (shown_file l.fn.file items) l.fn.delta) (take l.part-index l.parts)) l.listing.buffer (g.O.Sink.given l.fn.out) (g.O.Sink.given l.out);
+  gave : (bytes : List ℕ) (items : List Item)
+      → IsListedFile (bytes_in (seen (g.D.Disk.told l.fn.disk)) l.fn.file.name.now) l.fn.file.front.now bytes items
+      → Buffers l.fn.listing.buffer (flat_map (data_text (shown_file l.fn.file items) l.fn.delta)
+      (take l.part-index l.parts)) l.listing.buffer (g.O.Sink.given l.fn.out) (g.O.Sink.given l.out);
 }

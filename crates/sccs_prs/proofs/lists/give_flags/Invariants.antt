@@ -6,4 +6,5 @@ use Rattle.sccs_prs.proofs.lists.give_flags.Given as goal
 
 -- what stands for the items so far was given
 abbrev pub invariant-loop-flag : goal.invariant-loop-flag
-invariant-loop-flag g l = HasGiven (flat_map (λ f. ended (printed_flag f)) (take l.flag-index l.flags)) (g.S.Sink.given l.fn.out) (g.S.Sink.given l.out) (g.S.Sink.faults l.fn.out) (g.S.Sink.faults l.out)
+invariant-loop-flag g l = HasGiven (flat_map (λ f. ended (printed_flag f)) (take l.flag-index l.flags))
+    (g.S.Sink.given l.fn.out) (g.S.Sink.given l.out) (g.S.Sink.faults l.fn.out) (g.S.Sink.faults l.out)

@@ -8,9 +8,18 @@ pub parts-preserved : goal.parts-preserved
 parts-preserved c =
     let spec = c.args.spec.now in
     record {
-      fits = omega (arith, c.found_part-found.ensures.fits, length-take (length spec - (c.parts.from + 1)) (drop (c.parts.from + 1) spec), length-drop (c.parts.from + 1) spec, c.parts-test.true);
-      read = ap (λ (r : List Part). r ++ data_parts (drop (c.parts.from + (1 + c.found_part-found.result.behind)) spec)) c.in_ok-push.ensures.items
-          ∙ turn_read spec c.parts.read.items c.parts.from c.found_part-found.result c.parts-test.true c.found_part-found.ensures.value c.parts.invariant.read;
+      fits = omega (
+        arith,
+        c.found_part-found.ensures.fits,
+        length-take (length spec - (c.parts.from + 1))
+            (drop (c.parts.from + 1) spec),
+        length-drop (c.parts.from + 1) spec,
+        c.parts-test.true,
+      );
+      read = ap (λ (r : List Part). r ++ data_parts (drop (c.parts.from + (1 + c.found_part-found.result.behind)) spec))
+          c.in_ok-push.ensures.items
+          ∙ turn_read spec c.parts.read.items c.parts.from c.found_part-found.result c.parts-test.true
+          c.found_part-found.ensures.value c.parts.invariant.read;
     }
 
 pub returns : goal.returns

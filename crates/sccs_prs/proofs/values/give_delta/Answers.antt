@@ -11,4 +11,6 @@ pub returns : goal.returns
 returns g c =
     let r = c.args.delta.now in
     text_whole _ _ _ _ _ _ c.give_words.result
-    (three_words (kind_of r.removed) c.kind.result.now (sid_text r.sid) c.text-sid.result.now (moment_text r.moment) c.text.result (32 ∷ (r.login ++ (32 ∷ (decimal r.serial ++ (32 ∷ decimal r.predecessor))))) c.kind.ensures c.text-sid.ensures c.text.ensures) c.give_words.ensures
+    (three_words (kind_of r.removed) c.kind.result.now (sid_text r.sid) c.text-sid.result.now (moment_text r.moment)
+    c.text.result (32 ∷ (r.login ++ (32 ∷ (decimal r.serial ++ (32 ∷ decimal r.predecessor))))) c.kind.ensures
+    c.text-sid.ensures c.text.ensures) c.give_words.ensures

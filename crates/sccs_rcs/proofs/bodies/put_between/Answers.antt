@@ -3,7 +3,8 @@ use Rattle.sccs_rcs.proofs.RunLaws.{other_between, same_between}
 use Rattle.sccs_rcs.proofs.bodies.put_between.Goals as goal
 
 pub returns-then-is_same : goal.returns-then-is_same
-returns-then-is_same g c = same_text (same_between c.args.last c.args.next c.if-is_same.ensures) (puts_nothing c.args.out.now _ _)
+returns-then-is_same g c = same_text (same_between c.args.last c.args.next c.if-is_same.ensures)
+    (puts_nothing c.args.out.now _ _)
 
 pub returns : goal.returns
 returns g c =

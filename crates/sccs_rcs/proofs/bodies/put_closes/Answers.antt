@@ -3,7 +3,8 @@ use Rattle.sccs_rcs.proofs.RunLaws.{both_closed, none_closed}
 use Rattle.sccs_rcs.proofs.bodies.put_closes.Goals as goal
 
 pub returns-then-region-eq0 : goal.returns-then-region-eq0
-returns-then-region-eq0 g c = same_text (none_closed c.args.region.inserter c.args.region.deleter c.if-region-eq0.true) (puts_nothing c.args.out.now _ _)
+returns-then-region-eq0 g c = same_text (none_closed c.args.region.inserter c.args.region.deleter c.if-region-eq0.true)
+    (puts_nothing c.args.out.now _ _)
 
 pub returns : goal.returns
 returns g c =

@@ -4,7 +4,8 @@ use Rattle.sccs_rcs.proofs.RunLaws.{no_lines, run_put}
 use Rattle.sccs_rcs.proofs.bodies.put_run.Goals as goal
 
 pub returns-then-is_empty : goal.returns-then-is_empty
-returns-then-is_empty g c = same_text (no_lines c.args.last (region_of c.args.run.now) c.args.run.now.lines.now c.if-is_empty.ensures) (puts_nothing c.args.out.now _ _)
+returns-then-is_empty g c = same_text (no_lines c.args.last (region_of c.args.run.now) c.args.run.now.lines.now
+    c.if-is_empty.ensures) (puts_nothing c.args.out.now _ _)
 
 pub returns : goal.returns
 returns g c =

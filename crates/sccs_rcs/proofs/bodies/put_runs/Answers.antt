@@ -14,10 +14,14 @@ returns-in-Err g c = run_cut c.in-Err.fault c.in-Err.is c.loop-run.invariant c.p
 
 pub loop-run-preserved : goal.loop-run-preserved
 loop-run-preserved g c =
-    run_so_far c.args.runs.now c.loop-run.run-index c.run-item.result c.run-item.result c.loop-run.last c.region_behind-last.result c.args.out.now c.loop-run.out c.put_run.new.out _ _ _ _ _ _ c.put_run.result c.in_default.field-0 c.loop-run-test.true c.run-item.is c.region_behind-last.ensures c.in_default.is c.loop-run.invariant c.put_run.ensures
+    run_so_far c.args.runs.now c.loop-run.run-index c.run-item.result c.run-item.result c.loop-run.last
+    c.region_behind-last.result c.args.out.now c.loop-run.out c.put_run.new.out _ _ _ _ _ _ c.put_run.result
+    c.in_default.field-0 c.loop-run-test.true c.run-item.is c.region_behind-last.ensures c.in_default.is
+    c.loop-run.invariant c.put_run.ensures
 
 pub put_closes-requires : goal.put_closes-requires
 put_closes-requires g c = still_there _ _ _ _ _ _ _ _ c.loop-run.invariant.puts c.requires
 
 pub returns : goal.returns
-returns g c = runs_whole c.args.runs.now _ (drop_all c.loop-run.run-index c.args.runs.now c.loop-run-test.false) c.loop-run.invariant c.put_closes.ensures
+returns g c = runs_whole c.args.runs.now _ (drop_all c.loop-run.run-index c.args.runs.now c.loop-run-test.false)
+    c.loop-run.invariant c.put_closes.ensures

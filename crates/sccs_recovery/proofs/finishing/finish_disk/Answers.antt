@@ -8,10 +8,13 @@ use Rattle.sccs_recovery.proofs.finishing.finish_disk.Goals as goal
 
 pub returns-clause-ends : goal.returns-clause-ends
 returns-clause-ends g c =
-    subst (λ (r : Result ℕ Fault). FinishEnds r (g.D.Disk.told c.args.disk.now) (g.D.Disk.told c.finish_group.new.disk)) (sym c.status_of.ensures)
-    (finish_ends c.finish_group.result (g.D.Disk.told c.args.disk.now) (g.D.Disk.told c.finish_group.new.disk) c.finish_group.ensures.ends)
+    subst (λ (r : Result ℕ Fault). FinishEnds r (g.D.Disk.told c.args.disk.now) (g.D.Disk.told c.finish_group.new.disk))
+    (sym c.status_of.ensures)
+    (finish_ends c.finish_group.result (g.D.Disk.told c.args.disk.now) (g.D.Disk.told c.finish_group.new.disk)
+    c.finish_group.ensures.ends)
 
 pub returns-clause-causes : goal.returns-clause-causes
 returns-clause-causes g c =
-    subst (λ (r : Result ℕ Fault). DiskCauses (r ≡ Err ends.DiskFault) (g.D.Disk.faults c.args.disk.now) (g.D.Disk.faults c.finish_group.new.disk)) (sym c.status_of.ensures)
+    subst (λ (r : Result ℕ Fault). DiskCauses (r ≡ Err ends.DiskFault) (g.D.Disk.faults c.args.disk.now)
+    (g.D.Disk.faults c.finish_group.new.disk)) (sym c.status_of.ensures)
     (finish_causes c.finish_group.result _ _ c.finish_group.ensures.causes)

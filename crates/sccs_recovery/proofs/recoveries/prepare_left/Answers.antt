@@ -15,10 +15,12 @@ pub returns-in-Gone-clause-touches : goal.returns-in-Gone-clause-touches
 returns-in-Gone-clause-touches g c = same_touches (is_working c.args.name.now) _ _ refl
 
 pub returns-in-Ok-clause-touches : goal.returns-in-Ok-clause-touches
-returns-in-Ok-clause-touches g c = only_wider (bytes_eq (q_file c.args.name.now)) (is_working c.args.name.now) _ _ (no_q c.args.name.now) c.prepare_p.ensures.touches
+returns-in-Ok-clause-touches g c = only_wider (bytes_eq (q_file c.args.name.now)) (is_working c.args.name.now) _ _
+    (no_q c.args.name.now) c.prepare_p.ensures.touches
 
 pub returns-in-Err-clause-touches : goal.returns-in-Err-clause-touches
-returns-in-Err-clause-touches g c = only_wider (bytes_eq (q_file c.args.name.now)) (is_working c.args.name.now) _ _ (no_q c.args.name.now) c.prepare_p.ensures.touches
+returns-in-Err-clause-touches g c = only_wider (bytes_eq (q_file c.args.name.now)) (is_working c.args.name.now) _ _
+    (no_q c.args.name.now) c.prepare_p.ensures.touches
 
 pub returns-in-Ok-clause-moves : goal.returns-in-Ok-clause-moves
 returns-in-Ok-clause-moves g c = q_moves c.args.name.now _ _ _ c.in-Ok.ensures.view

@@ -7,10 +7,12 @@ use Rattle.sccs_recovery.proofs.OtherNames.{others_since}
 use Rattle.sccs_recovery.proofs.recoveries.recover.Goals as goal
 
 pub returns-in-Ok-clause-ends : goal.returns-in-Ok-clause-ends
-returns-in-Ok-clause-ends g c = ended c.args.name.now _ (g.D.Disk.told c.size.new.self) _ _ _ _ c.in-Ok.field-0 _ c.size.ensures.same c.size.ensures.later c.in-Ok.ensures.ends
+returns-in-Ok-clause-ends g c = ended c.args.name.now _ (g.D.Disk.told c.size.new.self) _ _ _ _ c.in-Ok.field-0 _
+    c.size.ensures.same c.size.ensures.later c.in-Ok.ensures.ends
 
 pub returns-in-Err-unlock-clause-ends : goal.returns-in-Err-unlock-clause-ends
-returns-in-Err-unlock-clause-ends g c = failed c.args.name.now _ (g.D.Disk.told c.size.new.self) _ _ _ _ c.in-Err-unlock.fault c.size.ensures.same c.size.ensures.later c.in-Err-unlock.ensures.ends
+returns-in-Err-unlock-clause-ends g c = failed c.args.name.now _ (g.D.Disk.told c.size.new.self) _ _ _ _
+    c.in-Err-unlock.fault c.size.ensures.same c.size.ensures.later c.in-Err-unlock.ensures.ends
 
 pub returns-in-Ok-tidy-clause-ends : goal.returns-in-Ok-tidy-clause-ends
 returns-in-Ok-tidy-clause-ends g c = record {
@@ -37,7 +39,8 @@ returns-in-Err-tidy-clause-ends g c = record {
   cleared = search rules;
   touches = search rules;
   others = others_since c.args.name.now _ (g.D.Disk.told c.size.new.self) _ c.size.ensures.same c.tidy.ensures.others;
-  partly = λ fault. partly_from c.args.name.now _ (g.D.Disk.told c.args.disk.now) (g.D.Disk.told c.size.new.self) _ c.size.ensures.same (partly c.args.name.now _ _ _ c.in-Err-tidy.ensures.view_err);
+  partly = λ fault. partly_from c.args.name.now _ (g.D.Disk.told c.args.disk.now) (g.D.Disk.told c.size.new.self) _
+      c.size.ensures.same (partly c.args.name.now _ _ _ c.in-Err-tidy.ensures.view_err);
   story = story_from _ (g.D.Disk.told c.size.new.self) _ c.size.ensures.same c.tidy.ensures.story;
   calm = search rules;
   firm = firm_since _ (g.D.Disk.told c.size.new.self) _ c.size.ensures.same c.tidy.ensures.firm;
@@ -54,7 +57,8 @@ returns-in-Err-clause-ends g c = record {
   cleared = search rules;
   touches = search rules;
   others = others_same (is_own c.args.name.now) _ _ c.size.ensures.same;
-  partly = λ fault. same_partly c.args.name.now _ (g.D.Disk.told c.args.disk.now) (g.D.Disk.told c.size.new.self) c.size.ensures.same;
+  partly = λ fault. same_partly c.args.name.now _ (g.D.Disk.told c.args.disk.now) (g.D.Disk.told c.size.new.self)
+      c.size.ensures.same;
   story = same_story _ _ c.size.ensures.same;
   calm = search rules;
   firm = same_firm _ _ c.size.ensures.same;

@@ -14,11 +14,16 @@ returns-in-Ok-clause-ends g c = record {
   refused = search rules;
   memory = search rules;
   cleared = search rules;
-  touches = λ fault. touches_from (is_working c.args.name.now) _ (g.D.Disk.told c.read_left.new.disk) _ c.read_left.ensures.same (c.finish.ensures.touches fault);
-  others = others_since c.args.name.now _ (g.D.Disk.told c.read_left.new.disk) _ c.read_left.ensures.same c.finish.ensures.others;
-  partly = λ fault. finished_partly c.args.name.now c.in-Ok.left (g.D.Disk.told c.args.disk.now) (g.D.Disk.told c.read_left.new.disk) (g.D.Disk.told c.finish.new.disk) c.read_left.ensures.same c.requires.z c.in-Ok.ensures.told (c.finish.ensures.partly fault);
+  touches = λ fault. touches_from (is_working c.args.name.now) _ (g.D.Disk.told c.read_left.new.disk) _
+      c.read_left.ensures.same (c.finish.ensures.touches fault);
+  others = others_since c.args.name.now _ (g.D.Disk.told c.read_left.new.disk) _ c.read_left.ensures.same
+      c.finish.ensures.others;
+  partly = λ fault. finished_partly c.args.name.now c.in-Ok.left (g.D.Disk.told c.args.disk.now)
+      (g.D.Disk.told c.read_left.new.disk) (g.D.Disk.told c.finish.new.disk) c.read_left.ensures.same c.requires.z
+      c.in-Ok.ensures.told (c.finish.ensures.partly fault);
   story = search rules;
-  calm = ok_map c.finish.result (calm_from _ (g.D.Disk.told c.read_left.new.disk) _ c.read_left.ensures.same) c.finish.ensures.calm;
+  calm = ok_map c.finish.result (calm_from _ (g.D.Disk.told c.read_left.new.disk) _ c.read_left.ensures.same)
+      c.finish.ensures.calm;
   firm = firm_since _ (g.D.Disk.told c.read_left.new.disk) _ c.read_left.ensures.same c.finish.ensures.firm;
   later = search rules;
   cause = search rules;
@@ -30,10 +35,12 @@ returns-in-Err-clause-ends g c = record {
   view = search rules;
   refused = search rules;
   memory = search rules;
-  cleared = λ fault. same_cleared c.args.name.now (g.D.Disk.told c.args.disk.now) (g.D.Disk.told c.read_left.new.disk) c.read_left.ensures.same;
+  cleared = λ fault. same_cleared c.args.name.now (g.D.Disk.told c.args.disk.now) (g.D.Disk.told c.read_left.new.disk)
+      c.read_left.ensures.same;
   touches = λ fault. same_touches (is_working c.args.name.now) _ _ c.read_left.ensures.same;
   others = others_same (is_own c.args.name.now) _ _ c.read_left.ensures.same;
-  partly = λ fault. same_partly c.args.name.now _ (g.D.Disk.told c.args.disk.now) (g.D.Disk.told c.read_left.new.disk) c.read_left.ensures.same;
+  partly = λ fault. same_partly c.args.name.now _ (g.D.Disk.told c.args.disk.now) (g.D.Disk.told c.read_left.new.disk)
+      c.read_left.ensures.same;
   story = same_story _ _ c.read_left.ensures.same;
   calm = search rules;
   firm = same_firm _ _ c.read_left.ensures.same;

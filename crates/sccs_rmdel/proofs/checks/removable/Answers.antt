@@ -11,4 +11,5 @@ returns-in_default-clause-checks c = refused_within rmdel_checks NoSid refl
 
 pub returns-clause-live : goal.returns-clause-live
 returns-clause-live c =
-    found_live c.args.header.now.records c.args.sid c.in-Some.delta.now (ap (λ l. live_delta l c.args.sid) (sym c.items-records.ensures) ∙ sym c.in-Some.ensures)
+    found_live c.args.header.now.records c.args.sid c.in-Some.delta.now (ap (λ l. live_delta l c.args.sid)
+    (sym c.items-records.ensures) ∙ sym c.in-Some.ensures)

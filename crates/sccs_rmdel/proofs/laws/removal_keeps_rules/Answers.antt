@@ -1,4 +1,5 @@
-use Rattle.sccs_rmdel.proofs.RemovedTables.{header_removed, history_valid, live_removed, rooted_removed, spelled_removed}
+use Rattle.sccs_rmdel.proofs.RemovedTables.{header_removed, history_valid, live_removed, rooted_removed}
+use Rattle.sccs_rmdel.proofs.RemovedTables.{spelled_removed}
 use Rattle.sccs_rmdel.proofs.laws.removal_keeps_rules.Goals as goal
 
 pub returns : goal.returns

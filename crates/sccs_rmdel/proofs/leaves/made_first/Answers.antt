@@ -9,4 +9,5 @@ returns-in-Some c =
     c.eq.ensures
     ∙ (ap (λ b. bytes_eq b c.bytes-in-Some.result.now) c.bytes.ensures.value
     ∙ (ap (bytes_eq c.in-Some.delta.now.login) c.bytes-in-Some.ensures.value
-    ∙ made_last (λ a. bytes_eq a.login c.args.login.now) c.args.records.now c.in-Some.delta.now (sym c.last.ensures.value ∙ ap option_copied c.in-Some.is)))
+    ∙ made_last (λ a. bytes_eq a.login c.args.login.now) c.args.records.now c.in-Some.delta.now
+    (sym c.last.ensures.value ∙ ap option_copied c.in-Some.is)))

@@ -4,4 +4,5 @@ use Rattle.sccs_rules.proofs.releases.left_text.Given as goal
 
 -- the text so far, and that of the rest
 abbrev pub invariant-loop-release : goal.invariant-loop-release
-invariant-loop-release l = l.text.items ++ flat_map behind_comma (left_of l.others (drop l.release-index l.releases)) ≡ flat_map behind_comma (left_of l.others l.releases)
+invariant-loop-release l = l.text.items ++ flat_map behind_comma (left_of l.others (drop l.release-index l.releases))
+    ≡ flat_map behind_comma (left_of l.others l.releases)

@@ -12,7 +12,8 @@ returns-in-Some c =
     let order : Order = c.order-item.result in
     let orders : List Order = c.args.orders.now in
     sym (sym c.loop-order.invariant.all
-    ∙ (bare_at orders c.loop-order.order-index order c.bad_place.result c.loop-order-test.true c.order-item.is (c.bad_place.ensures ∙ ap (position (begins 1)) c.items.ensures)
+    ∙ (bare_at orders c.loop-order.order-index order c.bad_place.result c.loop-order-test.true c.order-item.is
+    (c.bad_place.ensures ∙ ap (position (begins 1)) c.items.ensures)
     ∙ ap (λ p. or_bad (numbered order.line p) (bare_soh (drop (c.loop-order.order-index + 1) orders))) c.in-Some.is))
 
 pub loop-order-preserved : goal.loop-order-preserved
@@ -21,7 +22,11 @@ loop-order-preserved c =
     let orders : List Order = c.args.orders.now in
     record {
       all =
-          sym (ap (λ p. or_bad (numbered order.line p) (bare_soh (drop (c.loop-order.order-index + 1) orders))) c.in_default.is)
-          ∙ (sym (bare_at orders c.loop-order.order-index order c.bad_place.result c.loop-order-test.true c.order-item.is (c.bad_place.ensures ∙ ap (position (begins 1)) c.items.ensures)) ∙ c.loop-order.invariant.all);
-      fits = (fit_rest (FitsIn 18446744073709551616) orders c.loop-order.order-index order c.loop-order-test.true c.order-item.is c.loop-order.invariant.fits).1;
+          sym (ap (λ p. or_bad (numbered order.line p) (bare_soh (drop (c.loop-order.order-index + 1) orders)))
+          c.in_default.is)
+          ∙ (sym (bare_at orders c.loop-order.order-index order c.bad_place.result c.loop-order-test.true
+          c.order-item.is (c.bad_place.ensures ∙ ap (position (begins 1)) c.items.ensures))
+          ∙ c.loop-order.invariant.all);
+      fits = (fit_rest (FitsIn 18446744073709551616) orders c.loop-order.order-index order c.loop-order-test.true
+          c.order-item.is c.loop-order.invariant.fits).1;
     }

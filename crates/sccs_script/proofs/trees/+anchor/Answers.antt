@@ -10,5 +10,6 @@ returns-in-Fork t c =
     let f : Fork = c.in-Fork.fork.value in
     c.anchor.ensures
     ∙ (ap (λ (g : Fork). anchor_from c.end.result g.right) c.deref.ensures
-    ∙ (anchor_right c.args.before c.end.result f.left (expand f.piece) f.right (λ n. c.end.ensures n ∙ ap (λ (g : Fork). anchor_from n (expand g.piece)) c.deref-in-Fork.ensures)
+    ∙ (anchor_right c.args.before c.end.result f.left (expand f.piece) f.right (λ n. c.end.ensures n
+    ∙ ap (λ (g : Fork). anchor_from n (expand g.piece)) c.deref-in-Fork.ensures)
     ∙ (ap (anchor_from c.args.before) (sym (ap tree_lines c.in-Fork.is) ∙ c.tree.view_is))))

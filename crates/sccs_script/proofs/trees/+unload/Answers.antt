@@ -11,6 +11,8 @@ returns-in_ok-push-in-Fork-clause-ok t c =
     let opened : c.into_inner-left.result ≡ c.in-Fork.fork.value = search rules in
     on_done c.unload-in-Fork.result
     (λ last.
-    unloaded f.left f.right f.piece c.args.stack.now.items c.unload.new.stack.items c.push.new.self.items c.unload-in-Fork.new.stack.items c.in_ok-unload-in-Fork.ensures.ok c.in_ok-push-in-Fork.ensures.items last
-    ∙ ap (λ l. l ++ unstacked c.args.stack.now.items) (ap (λ (g : Fork). g.left ++ (expand g.piece ++ g.right)) opened ∙ (sym (ap tree_lines c.in-Fork.is) ∙ c.tree.view_is)))
+    unloaded f.left f.right f.piece c.args.stack.now.items c.unload.new.stack.items c.push.new.self.items
+    c.unload-in-Fork.new.stack.items c.in_ok-unload-in-Fork.ensures.ok c.in_ok-push-in-Fork.ensures.items last
+    ∙ ap (λ l. l ++ unstacked c.args.stack.now.items) (ap (λ (g : Fork). g.left ++ (expand g.piece ++ g.right)) opened
+    ∙ (sym (ap tree_lines c.in-Fork.is) ∙ c.tree.view_is)))
     c.unload-in-Fork.ensures.ok

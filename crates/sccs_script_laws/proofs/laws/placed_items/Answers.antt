@@ -12,6 +12,8 @@ returns c = record {
   lines = λ items set orders n some high. lines_placed items set orders n some high;
   own = λ items set orders n some high. select_placed items set orders n some high;
   others = λ items other set orders n some high none. other_placed items set orders n some high other none;
-  undone = λ items set orders n some high. dropped_spliced n set (plan orders (length (select set (lines_of items)))) items some high;
-  rules = λ live items set orders n high goes. rules_spliced live set n (plan orders (length (select set (lines_of items)))) items high goes;
+  undone = λ items set orders n some high. dropped_spliced n set (plan orders (length (select set (lines_of items))))
+      items some high;
+  rules = λ live items set orders n high goes. rules_spliced live set n
+      (plan orders (length (select set (lines_of items)))) items high goes;
 }

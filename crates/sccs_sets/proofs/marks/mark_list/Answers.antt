@@ -15,9 +15,11 @@ loop-number-preserved c =
       c.mark.ensures.sized ∙ c.loop-number.invariant.0,
       λ n lt.
           let old : Option Bool = slice_index_or c.loop-number.marks n None in
-          ap (λ o. or_else o (said_by rest c.args.value n)) (c.mark.ensures.said n (omega (arith, lt, c.loop-number.invariant.0)))
+          ap (λ o. or_else o (said_by rest c.args.value n))
+          (c.mark.ensures.said n (omega (arith, lt, c.loop-number.invariant.0)))
           ∙ (said_more old (get_or numbers i 0) rest c.args.value n
-          ∙ (sym (at_drop_more (λ l. or_else old (said_by l c.args.value n)) numbers i 0 c.loop-number-test.true) ∙ c.loop-number.invariant.1 n lt)),
+          ∙ (sym (at_drop_more (λ l. or_else old (said_by l c.args.value n)) numbers i 0 c.loop-number-test.true)
+          ∙ c.loop-number.invariant.1 n lt)),
     )
 
 pub returns-clause-sized : goal.returns-clause-sized
@@ -27,4 +29,5 @@ pub returns-clause-said : goal.returns-clause-said
 returns-clause-said c = λ n lt.
     let old : Option Bool = slice_index_or c.loop-number.marks n None in
     sym (else_none old c.args.value n)
-    ∙ (sym (at_drop_all (λ l. or_else old (said_by l c.args.value n)) c.args.numbers.now c.loop-number.number-index c.loop-number-test.false) ∙ c.loop-number.invariant.1 n lt)
+    ∙ (sym (at_drop_all (λ l. or_else old (said_by l c.args.value n)) c.args.numbers.now c.loop-number.number-index
+    c.loop-number-test.false) ∙ c.loop-number.invariant.1 n lt)

@@ -6,4 +6,6 @@ use Rattle.sccs_sets.proofs.marks.mark_list.Given as goal
 abbrev pub invariant-loop-number : goal.invariant-loop-number
 invariant-loop-number l =
     (length l.marks ≡ length l.initial.marks)
-    × ((n : ℕ) → n < length l.initial.marks → or_else (slice_index_or l.marks n None) (said_by (drop l.number-index l.numbers) l.value n) ≡ or_else (slice_index_or l.initial.marks n None) (said_by l.numbers l.value n))
+    × ((n : ℕ) → n < length l.initial.marks → or_else (slice_index_or l.marks n None)
+    (said_by (drop l.number-index l.numbers) l.value n) ≡ or_else (slice_index_or l.initial.marks n None)
+    (said_by l.numbers l.value n))

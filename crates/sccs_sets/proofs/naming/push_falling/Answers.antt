@@ -7,4 +7,5 @@ use Rattle.sccs_sets.proofs.naming.push_falling.Goals as goal
 pub returns : goal.returns
 returns c = λ falls.
     pushed_falls c.args.found.now.items c.push.new.self.items c.args.named c.in_ok-push.ensures.items
-    (ap (λ (l : List Named). comes_first (reverse l) c.args.named.sid) (sym c.deref.ensures.value) ∙ (sym c.comes_first.ensures ∙ c.if-not-comes_first.false))
+    (ap (λ (l : List Named). comes_first (reverse l) c.args.named.sid) (sym c.deref.ensures.value)
+    ∙ (sym c.comes_first.ensures ∙ c.if-not-comes_first.false))

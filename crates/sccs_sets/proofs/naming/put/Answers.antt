@@ -9,10 +9,12 @@ pub returns-in_ok-insert-in-Some : goal.returns-in_ok-insert-in-Some
 returns-in_ok-insert-in-Some c =
     let place : List Named → Option ℕ = λ xs. position (λ a. not (not_after a.sid c.args.named.sid)) xs in
     c.in_ok-insert-in-Some.ensures.items
-    ∙ sym (put_at c.args.named c.args.found.now.items c.in-Some.place (ap place (sym c.deref.ensures.value) ∙ (sym c.place_after.ensures ∙ c.in-Some.is)))
+    ∙ sym (put_at c.args.named c.args.found.now.items c.in-Some.place (ap place (sym c.deref.ensures.value)
+    ∙ (sym c.place_after.ensures ∙ c.in-Some.is)))
 
 pub returns-in_ok-push-in-None : goal.returns-in_ok-push-in-None
 returns-in_ok-push-in-None c =
     let place : List Named → Option ℕ = λ xs. position (λ a. not (not_after a.sid c.args.named.sid)) xs in
     c.in_ok-push-in-None.ensures.items
-    ∙ sym (put_end c.args.named c.args.found.now.items (ap place (sym c.deref.ensures.value) ∙ (sym c.place_after.ensures ∙ c.in-None.is)))
+    ∙ sym (put_end c.args.named c.args.found.now.items (ap place (sym c.deref.ensures.value)
+    ∙ (sym c.place_after.ensures ∙ c.in-None.is)))

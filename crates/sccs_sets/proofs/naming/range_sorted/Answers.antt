@@ -11,6 +11,8 @@ loop-record-preserved c =
     let i : ℕ = c.loop-record.record-index in
     let all : List Record = c.args.records.now in
     let r : Record = c.record-item.result in
-    put_record c.args.range.now r (drop (i + 1) all) c.loop-record.found.items c.put_record.new.found.items c.in_ok-put_record.ensures
-    ∙ (ap (λ l. fold put_named c.loop-record.found.items (map sid_named (live_where (in_range c.args.range.now) l))) (sym (drop-record all i r c.loop-record-test.true c.record-item.is))
+    put_record c.args.range.now r (drop (i + 1) all) c.loop-record.found.items c.put_record.new.found.items
+    c.in_ok-put_record.ensures
+    ∙ (ap (λ l. fold put_named c.loop-record.found.items (map sid_named (live_where (in_range c.args.range.now) l)))
+    (sym (drop-record all i r c.loop-record-test.true c.record-item.is))
     ∙ c.loop-record.invariant)

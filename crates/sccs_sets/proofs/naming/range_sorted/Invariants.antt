@@ -6,4 +6,5 @@ use Rattle.sccs_sets.proofs.naming.range_sorted.Given as goal
 -- what was found, and the rest of the records, are all that is found
 abbrev pub invariant-loop-record : goal.invariant-loop-record
 invariant-loop-record l =
-    fold put_named l.found.items (map sid_named (live_where (in_range l.range) (drop l.record-index l.records))) ≡ range_named l.records l.range
+    fold put_named l.found.items (map sid_named (live_where (in_range l.range) (drop l.record-index l.records)))
+    ≡ range_named l.records l.range

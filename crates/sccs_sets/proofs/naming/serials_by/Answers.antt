@@ -23,7 +23,9 @@ returns-in-Some-clause-value c =
     let low : c.loop-place.place < length list = omega (arith, c.loop-place-test.true, c.len-place-end.ensures) in
     let fault : range_fault records range ≡ Some c.in-Some.sid = sym c.range_fault_by.ensures ∙ c.in-Some.is in
     sym c.loop-place.invariant.0
-    ∙ (ap (λ l. named_serials records c.loop-place.seen l) (drop-at list c.loop-place.place range low c.at-range.ensures) ∙ range_stops records c.loop-place.seen range (drop (c.loop-place.place + 1) list) c.in-Some.sid fault)
+    ∙ (ap (λ l. named_serials records c.loop-place.seen l)
+    (drop-at list c.loop-place.place range low c.at-range.ensures) ∙ range_stops records c.loop-place.seen range
+    (drop (c.loop-place.place + 1) list) c.in-Some.sid fault)
 
 pub loop-place-preserved : goal.loop-place-preserved
 loop-place-preserved c =
@@ -31,10 +33,12 @@ loop-place-preserved c =
     let range : Range = c.at-range.result.now in
     let list : List Range = c.args.list.now in
     let low : c.loop-place.place < length list = omega (arith, c.loop-place-test.true, c.len-place-end.ensures) in
-    let fault : range_fault records range ≡ None = sym c.range_fault_by.ensures ∙ none_of c.range_fault_by.result c.in_default.not-Some in
+    let fault : range_fault records range ≡ None = sym c.range_fault_by.ensures
+    ∙ none_of c.range_fault_by.result c.in_default.not-Some in
     let more : c.add_range.new.seen ≡ add_range records c.loop-place.seen range = c.in-Ok.ensures.value in (
       range_goes records c.loop-place.seen c.add_range.new.seen range (drop (c.loop-place.place + 1) list) fault more
-          ∙ (ap (λ l. named_serials records c.loop-place.seen l) (sym (drop-at list c.loop-place.place range low c.at-range.ensures)) ∙ c.loop-place.invariant.0),
+          ∙ (ap (λ l. named_serials records c.loop-place.seen l)
+          (sym (drop-at list c.loop-place.place range low c.at-range.ensures)) ∙ c.loop-place.invariant.0),
       c.in-Ok.ensures.marks,
       c.add_range.ensures.size,
     )
@@ -45,4 +49,5 @@ returns-clause-live c =
     let list : List Range = c.args.list.now in
     let past : length list ≤ c.loop-place.place = omega (arith, c.loop-place-test.false, c.len-place-end.ensures) in
     serials_live records [] list c.loop-place.seen tt
-    (sym c.loop-place.invariant.0 ∙ ap (λ l. named_serials records c.loop-place.seen l) (at_drop_all (λ l. l) list c.loop-place.place past))
+    (sym c.loop-place.invariant.0 ∙ ap (λ l. named_serials records c.loop-place.seen l)
+    (at_drop_all (λ l. l) list c.loop-place.place past))

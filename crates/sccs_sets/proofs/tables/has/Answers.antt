@@ -9,4 +9,5 @@ use Rattle.sccs_sets.proofs.tables.has.Goals as goal
 pub returns : goal.returns
 returns c =
     let found : Decides c.contains.result (Contains c.args.numbers.now c.args.number) = search rules in
-    same_from_decides c.contains.result (has c.args.numbers.now c.args.number) found (has_decides c.args.numbers.now c.args.number)
+    same_from_decides c.contains.result (has c.args.numbers.now c.args.number) found
+    (has_decides c.args.numbers.now c.args.number)

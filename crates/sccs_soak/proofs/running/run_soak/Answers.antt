@@ -8,17 +8,50 @@ use Rattle.sccs_soak.proofs.running.run_soak.Goals as goal
 
 pub returns-in-Err : goal.returns-in-Err
 returns-in-Err g c =
-    soak_cut (g.C.Commands.command c.args.commands.now) (g.C.Commands.fits c.args.commands.now) (g.C.Commands.whole c.args.commands.now) (g.C.Commands.begun c.args.commands.now) (g.C.Commands.takes c.args.commands.now) c.args.number first_command (rounds_from c.args.number 1 c.args.number 0) c.in-Err.fault (quiet g.O.Sink g.E.Sink g.D.Disk c.args.out.now c.args.err.now c.args.disk.now) (quiet g.O.Sink g.E.Sink g.D.Disk c.run_made.new.out c.run_made.new.err c.run_made.new.disk)
-    (subst (λ (r : Result ℕ Fault). RunsSoaked (g.C.Commands.command c.args.commands.now first_command) (g.C.Commands.fits c.args.commands.now first_command) (g.C.Commands.whole c.args.commands.now first_command) (g.C.Commands.begun c.args.commands.now first_command) r (quiet g.O.Sink g.E.Sink g.D.Disk c.args.out.now c.args.err.now c.args.disk.now) (quiet g.O.Sink g.E.Sink g.D.Disk c.run_made.new.out c.run_made.new.err c.run_made.new.disk)) c.in-Err.is (c.run_made.ensures first_command c.first_command-first.ensures.value))
+    soak_cut (g.C.Commands.command c.args.commands.now) (g.C.Commands.fits c.args.commands.now)
+    (g.C.Commands.whole c.args.commands.now) (g.C.Commands.begun c.args.commands.now)
+    (g.C.Commands.takes c.args.commands.now) c.args.number first_command
+    (rounds_from c.args.number 1 c.args.number 0) c.in-Err.fault (quiet g.O.Sink g.E.Sink g.D.Disk c.args.out.now
+    c.args.err.now c.args.disk.now) (quiet g.O.Sink g.E.Sink g.D.Disk c.run_made.new.out c.run_made.new.err
+    c.run_made.new.disk)
+    (subst (λ (r : Result ℕ Fault). RunsSoaked (g.C.Commands.command c.args.commands.now first_command)
+    (g.C.Commands.fits c.args.commands.now first_command) (g.C.Commands.whole c.args.commands.now first_command)
+    (g.C.Commands.begun c.args.commands.now first_command) r (quiet g.O.Sink g.E.Sink g.D.Disk c.args.out.now
+    c.args.err.now c.args.disk.now) (quiet g.O.Sink g.E.Sink g.D.Disk c.run_made.new.out c.run_made.new.err
+    c.run_made.new.disk)) c.in-Err.is (c.run_made.ensures first_command c.first_command-first.ensures.value))
 
 pub returns-then-status-ne0 : goal.returns-then-status-ne0
 returns-then-status-ne0 g c =
-    soak_ends (g.C.Commands.command c.args.commands.now) (g.C.Commands.fits c.args.commands.now) (g.C.Commands.whole c.args.commands.now) (g.C.Commands.begun c.args.commands.now) (g.C.Commands.takes c.args.commands.now) c.args.number first_command (rounds_from c.args.number 1 c.args.number 0) c.in-Ok.status (quiet g.O.Sink g.E.Sink g.D.Disk c.args.out.now c.args.err.now c.args.disk.now) (quiet g.O.Sink g.E.Sink g.D.Disk c.run_made.new.out c.run_made.new.err c.run_made.new.disk) c.if-status-ne0.true
-    (subst (λ (r : Result ℕ Fault). RunsSoaked (g.C.Commands.command c.args.commands.now first_command) (g.C.Commands.fits c.args.commands.now first_command) (g.C.Commands.whole c.args.commands.now first_command) (g.C.Commands.begun c.args.commands.now first_command) r (quiet g.O.Sink g.E.Sink g.D.Disk c.args.out.now c.args.err.now c.args.disk.now) (quiet g.O.Sink g.E.Sink g.D.Disk c.run_made.new.out c.run_made.new.err c.run_made.new.disk)) c.in-Ok.is (c.run_made.ensures first_command c.first_command-first.ensures.value))
+    soak_ends (g.C.Commands.command c.args.commands.now) (g.C.Commands.fits c.args.commands.now)
+    (g.C.Commands.whole c.args.commands.now) (g.C.Commands.begun c.args.commands.now)
+    (g.C.Commands.takes c.args.commands.now) c.args.number first_command
+    (rounds_from c.args.number 1 c.args.number 0) c.in-Ok.status (quiet g.O.Sink g.E.Sink g.D.Disk c.args.out.now
+    c.args.err.now c.args.disk.now) (quiet g.O.Sink g.E.Sink g.D.Disk c.run_made.new.out c.run_made.new.err
+    c.run_made.new.disk) c.if-status-ne0.true
+    (subst (λ (r : Result ℕ Fault). RunsSoaked (g.C.Commands.command c.args.commands.now first_command)
+    (g.C.Commands.fits c.args.commands.now first_command) (g.C.Commands.whole c.args.commands.now first_command)
+    (g.C.Commands.begun c.args.commands.now first_command) r (quiet g.O.Sink g.E.Sink g.D.Disk c.args.out.now
+    c.args.err.now c.args.disk.now) (quiet g.O.Sink g.E.Sink g.D.Disk c.run_made.new.out c.run_made.new.err
+    c.run_made.new.disk)) c.in-Ok.is (c.run_made.ensures first_command c.first_command-first.ensures.value))
 
 pub returns : goal.returns
 returns g c =
-    soak_on (g.C.Commands.command c.args.commands.now) (g.C.Commands.fits c.args.commands.now) (g.C.Commands.whole c.args.commands.now) (g.C.Commands.begun c.args.commands.now) (g.C.Commands.takes c.args.commands.now) c.args.number first_command (rounds_from c.args.number 1 c.args.number 0) c.run_rounds.result (quiet g.O.Sink g.E.Sink g.D.Disk c.args.out.now c.args.err.now c.args.disk.now) (quiet g.O.Sink g.E.Sink g.D.Disk c.run_made.new.out c.run_made.new.err c.run_made.new.disk) (quiet g.O.Sink g.E.Sink g.D.Disk c.run_rounds.new.out c.run_rounds.new.err c.run_rounds.new.disk)
-    (subst (λ (status : ℕ). RunsSoaked (g.C.Commands.command c.args.commands.now first_command) (g.C.Commands.fits c.args.commands.now first_command) (g.C.Commands.whole c.args.commands.now first_command) (g.C.Commands.begun c.args.commands.now first_command) (Ok status) (quiet g.O.Sink g.E.Sink g.D.Disk c.args.out.now c.args.err.now c.args.disk.now) (quiet g.O.Sink g.E.Sink g.D.Disk c.run_made.new.out c.run_made.new.err c.run_made.new.disk)) c.if-status-ne0.false
-    (subst (λ (r : Result ℕ Fault). RunsSoaked (g.C.Commands.command c.args.commands.now first_command) (g.C.Commands.fits c.args.commands.now first_command) (g.C.Commands.whole c.args.commands.now first_command) (g.C.Commands.begun c.args.commands.now first_command) r (quiet g.O.Sink g.E.Sink g.D.Disk c.args.out.now c.args.err.now c.args.disk.now) (quiet g.O.Sink g.E.Sink g.D.Disk c.run_made.new.out c.run_made.new.err c.run_made.new.disk)) c.in-Ok.is (c.run_made.ensures first_command c.first_command-first.ensures.value)))
+    soak_on (g.C.Commands.command c.args.commands.now) (g.C.Commands.fits c.args.commands.now)
+    (g.C.Commands.whole c.args.commands.now) (g.C.Commands.begun c.args.commands.now)
+    (g.C.Commands.takes c.args.commands.now) c.args.number first_command
+    (rounds_from c.args.number 1 c.args.number 0) c.run_rounds.result
+    (quiet g.O.Sink g.E.Sink g.D.Disk c.args.out.now c.args.err.now c.args.disk.now)
+    (quiet g.O.Sink g.E.Sink g.D.Disk c.run_made.new.out c.run_made.new.err c.run_made.new.disk)
+    (quiet g.O.Sink g.E.Sink g.D.Disk c.run_rounds.new.out c.run_rounds.new.err c.run_rounds.new.disk)
+    (subst (λ (status : ℕ). RunsSoaked (g.C.Commands.command c.args.commands.now first_command)
+    (g.C.Commands.fits c.args.commands.now first_command) (g.C.Commands.whole c.args.commands.now first_command)
+    (g.C.Commands.begun c.args.commands.now first_command) (Ok status)
+    (quiet g.O.Sink g.E.Sink g.D.Disk c.args.out.now c.args.err.now c.args.disk.now)
+    (quiet g.O.Sink g.E.Sink g.D.Disk c.run_made.new.out c.run_made.new.err c.run_made.new.disk))
+    c.if-status-ne0.false
+    (subst (λ (r : Result ℕ Fault). RunsSoaked (g.C.Commands.command c.args.commands.now first_command)
+    (g.C.Commands.fits c.args.commands.now first_command) (g.C.Commands.whole c.args.commands.now first_command)
+    (g.C.Commands.begun c.args.commands.now first_command) r (quiet g.O.Sink g.E.Sink g.D.Disk c.args.out.now
+    c.args.err.now c.args.disk.now) (quiet g.O.Sink g.E.Sink g.D.Disk c.run_made.new.out c.run_made.new.err
+    c.run_made.new.disk)) c.in-Ok.is (c.run_made.ensures first_command c.first_command-first.ensures.value)))
     c.run_rounds.ensures

@@ -16,11 +16,15 @@ use Rattle.sccs_splicer.proofs.laws.spliced_bodies.Goals as goal
 pub returns : goal.returns
 returns c = record {
   whole = λ items set orders n s w w2 w3 a b c f g h pushed last.
-      splices_end (told_behind set [] items) (new_splice n (plan orders (length (select set (lines_of items))))) s w w2 w3 a b c f g h (Ok tt) (Ok tt) tt refl pushed last;
+      splices_end (told_behind set [] items) (new_splice n (plan orders (length (select set (lines_of items))))) s w w2
+      w3 a b c f g h (Ok tt) (Ok tt) tt refl pushed last;
   line = λ items set orders n s w w2 a b f g pushed. omega (arith, pushed.goes.line, shown_lines set [] items);
   reads = λ header live items set orders n keeps spelled lives some few high each lines new goes.
       canonical_again header (places items set orders n) keeps spelled
-      (placed_all (λ text. (begins 1 text ≡ false) × HasNoLf text) IsItem n (λ text has. has.0) (some, few) (some, few) (some, few) items set orders (length (select set (lines_of items))) each new)
-      (placed_all (λ text. (begins 1 text ≡ false) × HasNoLf text) HasLines n (λ text has. has.1) tt tt tt items set orders (length (select set (lines_of items))) lines new)
-      (subst (λ l. GoesOn l [] (places items set orders n)) (sym lives) (rules_spliced live set n (plan orders (length (select set (lines_of items)))) items high goes));
+      (placed_all (λ text. (begins 1 text ≡ false) × HasNoLf text) IsItem n (λ text has. has.0) (some, few) (some, few)
+      (some, few) items set orders (length (select set (lines_of items))) each new)
+      (placed_all (λ text. (begins 1 text ≡ false) × HasNoLf text) HasLines n (λ text has. has.1) tt tt tt items set
+      orders (length (select set (lines_of items))) lines new)
+      (subst (λ l. GoesOn l [] (places items set orders n)) (sym lives) (rules_spliced live set n
+      (plan orders (length (select set (lines_of items)))) items high goes));
 }

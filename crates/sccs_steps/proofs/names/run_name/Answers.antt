@@ -10,13 +10,23 @@ use Rattle.sccs_steps.proofs.names.run_name.Goals as goal
 
 pub returns-in_default-clause-run : goal.returns-in_default-clause-run
 returns-in_default-clause-run g c = record {
-  steps = λ w m i spares clear shows heard. misfit_runs (g.U.UtilityWithStatus.action c.args.utility.now) w m i c.args.name.now _ _ _ _ _ (sym c.in_default.ensures.exact) shows c.conclude.ensures.concludes;
+  steps = λ w m i spares clear shows heard. misfit_runs (g.U.UtilityWithStatus.action c.args.utility.now) w m i
+      c.args.name.now _ _ _ _ _ (sym c.in_default.ensures.exact) shows c.conclude.ensures.concludes;
   stops =
-      misfit_stops (g.U.UtilityWithStatus.action c.args.utility.now) c.args.name.now (IsHeard (g.U.UtilityWithStatus.action c.args.utility.now).takes (g.I.Source.left c.args.streams.now.input.now)) _ (setting g.I.Source g.O.Sink g.E.Sink g.D.Disk c.args.streams.now).stage _
+      misfit_stops (g.U.UtilityWithStatus.action c.args.utility.now) c.args.name.now
+      (IsHeard (g.U.UtilityWithStatus.action c.args.utility.now).takes
+      (g.I.Source.left c.args.streams.now.input.now)) _ (setting g.I.Source g.O.Sink g.E.Sink g.D.Disk
+      c.args.streams.now).stage _
       (sym c.in_default.ensures.exact) c.conclude.ensures.concludes;
-  unlocked = none_unlocked (g.U.UtilityWithStatus.action c.args.utility.now) (λ m i. step_at (g.U.UtilityWithStatus.action c.args.utility.now) m i c.args.name.now ∷ []) (IsHeard (g.U.UtilityWithStatus.action c.args.utility.now).takes (g.I.Source.left c.args.streams.now.input.now)) _ _ refl;
-  recovers = misfit_recovers (g.U.UtilityWithStatus.action c.args.utility.now) c.args.name.now (IsHeard (g.U.UtilityWithStatus.action c.args.utility.now).takes (g.I.Source.left c.args.streams.now.input.now)) _ _ _ refl (sym c.in_default.ensures.exact);
-  speaks = misfit_speaks (g.U.UtilityWithStatus.action c.args.utility.now) c.args.name.now _ _ _ (sym c.in_default.ensures.exact) c.conclude.ensures.concludes;
+  unlocked = none_unlocked (g.U.UtilityWithStatus.action c.args.utility.now)
+      (λ m i. step_at (g.U.UtilityWithStatus.action c.args.utility.now) m i c.args.name.now ∷ [])
+      (IsHeard (g.U.UtilityWithStatus.action c.args.utility.now).takes (g.I.Source.left c.args.streams.now.input.now)) _
+      _ refl;
+  recovers = misfit_recovers (g.U.UtilityWithStatus.action c.args.utility.now) c.args.name.now
+      (IsHeard (g.U.UtilityWithStatus.action c.args.utility.now).takes (g.I.Source.left c.args.streams.now.input.now)) _
+      _ _ refl (sym c.in_default.ensures.exact);
+  speaks = misfit_speaks (g.U.UtilityWithStatus.action c.args.utility.now) c.args.name.now _ _ _
+      (sym c.in_default.ensures.exact) c.conclude.ensures.concludes;
   reads = search rules;
   silent = search rules;
   ignores = search rules;
@@ -26,24 +36,47 @@ returns-in_default-clause-run g c = record {
 pub returns-clause-run : goal.returns-clause-run
 returns-clause-run g c = record {
   steps = λ w m i spares clear shows heard.
-      stepped_runs (g.U.UtilityWithStatus.action c.args.utility.now) w m i c.args.name.now c.in-Some.file c.step-made.result _ _
-      (setting g.I.Source g.O.Sink g.E.Sink g.D.Disk c.args.streams.now).stage (scene (g.D.Disk.told c.step-made.new.disk) (g.O.Sink.given c.step-made.new.out) (g.E.Sink.given c.step-made.new.err)) _
-      (g.U.UtilityWithStatus.keeps c.args.utility.now) (sym c.in-Some.ensures.exact) c.in-Some.ensures.found clear.0 c.step-made.ensures.reads shows heard c.step-made.ensures.step c.conclude-2.ensures.concludes;
+      stepped_runs (g.U.UtilityWithStatus.action c.args.utility.now) w m i c.args.name.now c.in-Some.file
+      c.step-made.result _ _
+      (setting g.I.Source g.O.Sink g.E.Sink g.D.Disk c.args.streams.now).stage
+      (scene (g.D.Disk.told c.step-made.new.disk) (g.O.Sink.given c.step-made.new.out)
+      (g.E.Sink.given c.step-made.new.err)) _
+      (g.U.UtilityWithStatus.keeps c.args.utility.now) (sym c.in-Some.ensures.exact) c.in-Some.ensures.found clear.0
+      c.step-made.ensures.reads shows heard c.step-made.ensures.step c.conclude-2.ensures.concludes;
   stops =
-      stepped_stops (g.U.UtilityWithStatus.action c.args.utility.now) c.args.name.now c.in-Some.file c.step-made.result _ (g.I.Source.left c.args.streams.now.input.now)
-      (setting g.I.Source g.O.Sink g.E.Sink g.D.Disk c.args.streams.now).stage (scene (g.D.Disk.told c.step-made.new.disk) (g.O.Sink.given c.step-made.new.out) (g.E.Sink.given c.step-made.new.err)) _
-      (g.U.UtilityWithStatus.keeps c.args.utility.now) (sym c.in-Some.ensures.exact) c.in-Some.ensures.found c.step-made.ensures.reads c.step-made.ensures.crash_points c.step-made.ensures.others c.conclude-2.ensures.concludes;
+      stepped_stops (g.U.UtilityWithStatus.action c.args.utility.now) c.args.name.now c.in-Some.file c.step-made.result
+      _ (g.I.Source.left c.args.streams.now.input.now)
+      (setting g.I.Source g.O.Sink g.E.Sink g.D.Disk c.args.streams.now).stage
+      (scene (g.D.Disk.told c.step-made.new.disk) (g.O.Sink.given c.step-made.new.out)
+      (g.E.Sink.given c.step-made.new.err)) _
+      (g.U.UtilityWithStatus.keeps c.args.utility.now) (sym c.in-Some.ensures.exact) c.in-Some.ensures.found
+      c.step-made.ensures.reads c.step-made.ensures.crash_points c.step-made.ensures.others
+      c.conclude-2.ensures.concludes;
   unlocked =
-      one_unlocked (g.U.UtilityWithStatus.action c.args.utility.now) c.args.name.now c.in-Some.file (IsHeard (g.U.UtilityWithStatus.action c.args.utility.now).takes (g.I.Source.left c.args.streams.now.input.now)) _ _ (g.U.UtilityWithStatus.keeps c.args.utility.now) (sym c.in-Some.ensures.exact) c.in-Some.ensures.found c.step-made.ensures.reads c.step-made.ensures.unlocked c.step-made.ensures.others;
+      one_unlocked (g.U.UtilityWithStatus.action c.args.utility.now) c.args.name.now c.in-Some.file
+      (IsHeard (g.U.UtilityWithStatus.action c.args.utility.now).takes
+      (g.I.Source.left c.args.streams.now.input.now)) _ _ (g.U.UtilityWithStatus.keeps c.args.utility.now)
+      (sym c.in-Some.ensures.exact) c.in-Some.ensures.found c.step-made.ensures.reads c.step-made.ensures.unlocked
+      c.step-made.ensures.others;
   recovers =
-      stepped_recovers (g.U.UtilityWithStatus.action c.args.utility.now) c.args.name.now c.step-made.result _ (IsHeard (g.U.UtilityWithStatus.action c.args.utility.now).takes (g.I.Source.left c.args.streams.now.input.now))
-      (setting g.I.Source g.O.Sink g.E.Sink g.D.Disk c.args.streams.now).stage (scene (g.D.Disk.told c.step-made.new.disk) (g.O.Sink.given c.step-made.new.out) (g.E.Sink.given c.step-made.new.err)) _ c.step-made.ensures.recovers c.conclude-2.ensures.concludes
+      stepped_recovers (g.U.UtilityWithStatus.action c.args.utility.now) c.args.name.now c.step-made.result _
+      (IsHeard (g.U.UtilityWithStatus.action c.args.utility.now).takes
+      (g.I.Source.left c.args.streams.now.input.now))
+      (setting g.I.Source g.O.Sink g.E.Sink g.D.Disk c.args.streams.now).stage
+      (scene (g.D.Disk.told c.step-made.new.disk) (g.O.Sink.given c.step-made.new.out)
+      (g.E.Sink.given c.step-made.new.err)) _ c.step-made.ensures.recovers c.conclude-2.ensures.concludes
       (λ w m i spares clear shows heard.
-      stepped_runs (g.U.UtilityWithStatus.action c.args.utility.now) w m i c.args.name.now c.in-Some.file c.step-made.result _ _
-      (setting g.I.Source g.O.Sink g.E.Sink g.D.Disk c.args.streams.now).stage (scene (g.D.Disk.told c.step-made.new.disk) (g.O.Sink.given c.step-made.new.out) (g.E.Sink.given c.step-made.new.err)) _
-      (g.U.UtilityWithStatus.keeps c.args.utility.now) (sym c.in-Some.ensures.exact) c.in-Some.ensures.found clear.0 c.step-made.ensures.reads shows heard c.step-made.ensures.step c.conclude-2.ensures.concludes);
+      stepped_runs (g.U.UtilityWithStatus.action c.args.utility.now) w m i c.args.name.now c.in-Some.file
+      c.step-made.result _ _
+      (setting g.I.Source g.O.Sink g.E.Sink g.D.Disk c.args.streams.now).stage
+      (scene (g.D.Disk.told c.step-made.new.disk) (g.O.Sink.given c.step-made.new.out)
+      (g.E.Sink.given c.step-made.new.err)) _
+      (g.U.UtilityWithStatus.keeps c.args.utility.now) (sym c.in-Some.ensures.exact) c.in-Some.ensures.found clear.0
+      c.step-made.ensures.reads shows heard c.step-made.ensures.step c.conclude-2.ensures.concludes);
   speaks =
-      step_speaks (g.U.UtilityWithStatus.action c.args.utility.now) c.args.name.now c.in-Some.file c.step-made.result _ _ _ _ (sym c.in-Some.ensures.exact) c.in-Some.ensures.found c.step-made.ensures.speaks c.conclude-2.ensures.concludes;
+      step_speaks (g.U.UtilityWithStatus.action c.args.utility.now) c.args.name.now c.in-Some.file c.step-made.result _
+      _ _ _ (sym c.in-Some.ensures.exact) c.in-Some.ensures.found c.step-made.ensures.speaks
+      c.conclude-2.ensures.concludes;
   reads = search rules;
   silent = search rules;
   ignores = search rules;

@@ -19,22 +19,50 @@ use Rattle.sccs_steps.proofs.names.run_names.Given as goal
 abbrev pub invariant-loop-name : goal.invariant-loop-name
 invariant-loop-name g l = record {
   loans : SameLoans l.fn.streams l.streams;
-  so_far : (w : List ℕ → Bool) (m : Folder) (i : List ℕ) → Spares w → AreClear (g.U.UtilityWithStatus.action l.utility) w (steps_of (g.U.UtilityWithStatus.action l.utility) i m l.names) → Shows w (seen (g.D.Disk.told l.fn.streams.disk.now)) (view_in m)
-      → SoFar (g.U.UtilityWithStatus.action l.utility).rule w m (steps_of (g.U.UtilityWithStatus.action l.utility) i m l.names) (λ u. steps_of (g.U.UtilityWithStatus.action l.utility) i u (drop l.name-index l.names)) l.status
-      (shown (setting g.I.Source g.O.Sink g.E.Sink g.D.Disk l.fn.streams).stage) (shown (setting g.I.Source g.O.Sink g.E.Sink g.D.Disk l.streams).stage);
-  stops : (w : List ℕ → Bool) (folder : Folder) (i : List ℕ) (m : Model) (past : List Model) → Spares w → AreClear (g.U.UtilityWithStatus.action l.utility) w (steps_of (g.U.UtilityWithStatus.action l.utility) i folder l.names) → Shows w (seen (g.D.Disk.told l.fn.streams.disk.now)) (view_in folder)
-      → g.D.Disk.told l.fn.streams.disk.now ≡ Tells m past → MayBegin folder m → AreSafe (g.U.UtilityWithStatus.action l.utility) (steps_of (g.U.UtilityWithStatus.action l.utility) i folder l.names) (view_in folder)
-      → StopsSoFar (g.U.UtilityWithStatus.action l.utility) w folder (steps_of (g.U.UtilityWithStatus.action l.utility) i folder l.names) (λ u. steps_of (g.U.UtilityWithStatus.action l.utility) i u (drop l.name-index l.names)) l.status
-      (setting g.I.Source g.O.Sink g.E.Sink g.D.Disk l.fn.streams).stage (setting g.I.Source g.O.Sink g.E.Sink g.D.Disk l.streams).stage m past;
-  unlocked : (w : List ℕ → Bool) (m : Folder) (i : List ℕ) → Spares w → AreClear (g.U.UtilityWithStatus.action l.utility) w (steps_of (g.U.UtilityWithStatus.action l.utility) i m l.names) → Shows w (seen (g.D.Disk.told l.fn.streams.disk.now)) (view_in m)
-      → (exempt : List ℕ → Bool) → ArePlain (g.U.UtilityWithStatus.action l.utility) (steps_of (g.U.UtilityWithStatus.action l.utility) i m l.names) → AreExempt (g.U.UtilityWithStatus.action l.utility) exempt (steps_of (g.U.UtilityWithStatus.action l.utility) i m l.names) → BeginsUnlockedBut exempt (g.D.Disk.told l.fn.streams.disk.now) (g.D.Disk.told l.streams.disk.now);
-  firm : (g.U.UtilityWithStatus.action l.utility).locks ≡ false → StaysFirm (g.D.Disk.told l.fn.streams.disk.now) (g.D.Disk.told l.streams.disk.now);
-  recovered : (w : List ℕ → Bool) (m : Folder) (i : List ℕ) → Spares w → AreClear (g.U.UtilityWithStatus.action l.utility) w (steps_of (g.U.UtilityWithStatus.action l.utility) i m l.names) → Shows w (seen (g.D.Disk.told l.fn.streams.disk.now)) (view_in m) → (g.U.UtilityWithStatus.action l.utility).locks ≡ false
-      → RecoversSoFar (g.U.UtilityWithStatus.action l.utility).rule w m (in_turn (λ u n. step_at (g.U.UtilityWithStatus.action l.utility) u i n ∷ []) m l.names) (λ u. in_turn (λ u n. step_at (g.U.UtilityWithStatus.action l.utility) u i n ∷ []) u (drop l.name-index l.names)) l.status
-      (setting g.I.Source g.O.Sink g.E.Sink g.D.Disk l.fn.streams).stage (setting g.I.Source g.O.Sink g.E.Sink g.D.Disk l.streams).stage;
-  said : SpokeSoFar (g.U.UtilityWithStatus.action l.utility).rule (NameMakes (g.U.UtilityWithStatus.action l.utility)) l.names l.name-index l.status (g.E.Sink.given l.fn.streams.err.now) (g.E.Sink.given l.streams.err.now);
-  silent : (g.U.UtilityWithStatus.action l.utility).silent ≡ true → g.O.Sink.given l.streams.out.now ≡ g.O.Sink.given l.fn.streams.out.now;
-  same : (g.U.UtilityWithStatus.action l.utility).reads ≡ true → g.D.Disk.told l.streams.disk.now ≡ g.D.Disk.told l.fn.streams.disk.now;
+  so_far : (w : List ℕ → Bool) (m : Folder) (i : List ℕ) → Spares w → AreClear (g.U.UtilityWithStatus.action l.utility)
+      w (steps_of (g.U.UtilityWithStatus.action l.utility) i m l.names)
+      → Shows w (seen (g.D.Disk.told l.fn.streams.disk.now)) (view_in m)
+      → SoFar (g.U.UtilityWithStatus.action l.utility).rule w m (steps_of (g.U.UtilityWithStatus.action l.utility) i m
+      l.names) (λ u. steps_of (g.U.UtilityWithStatus.action l.utility) i u (drop l.name-index l.names)) l.status
+      (shown (setting g.I.Source g.O.Sink g.E.Sink g.D.Disk l.fn.streams).stage)
+      (shown (setting g.I.Source g.O.Sink g.E.Sink g.D.Disk l.streams).stage);
+  stops : (w : List ℕ → Bool) (folder : Folder) (i : List ℕ) (m : Model) (past : List Model) → Spares w
+      → AreClear (g.U.UtilityWithStatus.action l.utility) w (steps_of (g.U.UtilityWithStatus.action l.utility) i folder
+      l.names) → Shows w (seen (g.D.Disk.told l.fn.streams.disk.now)) (view_in folder)
+      → g.D.Disk.told l.fn.streams.disk.now ≡ Tells m past → MayBegin folder m
+      → AreSafe (g.U.UtilityWithStatus.action l.utility) (steps_of (g.U.UtilityWithStatus.action l.utility) i folder
+      l.names) (view_in folder)
+      → StopsSoFar (g.U.UtilityWithStatus.action l.utility) w folder (steps_of (g.U.UtilityWithStatus.action l.utility)
+      i folder l.names) (λ u. steps_of (g.U.UtilityWithStatus.action l.utility) i u (drop l.name-index l.names))
+      l.status
+      (setting g.I.Source g.O.Sink g.E.Sink g.D.Disk l.fn.streams).stage (setting g.I.Source g.O.Sink g.E.Sink g.D.Disk
+      l.streams).stage m past;
+  unlocked : (w : List ℕ → Bool) (m : Folder) (i : List ℕ) → Spares w
+      → AreClear (g.U.UtilityWithStatus.action l.utility) w (steps_of (g.U.UtilityWithStatus.action l.utility) i m
+      l.names) → Shows w (seen (g.D.Disk.told l.fn.streams.disk.now)) (view_in m)
+      → (exempt : List ℕ → Bool) → ArePlain (g.U.UtilityWithStatus.action l.utility)
+      (steps_of (g.U.UtilityWithStatus.action l.utility) i m l.names)
+      → AreExempt (g.U.UtilityWithStatus.action l.utility) exempt (steps_of (g.U.UtilityWithStatus.action l.utility)
+      i m l.names) → BeginsUnlockedBut exempt (g.D.Disk.told l.fn.streams.disk.now)
+      (g.D.Disk.told l.streams.disk.now);
+  firm : (g.U.UtilityWithStatus.action l.utility).locks ≡ false → StaysFirm (g.D.Disk.told l.fn.streams.disk.now)
+      (g.D.Disk.told l.streams.disk.now);
+  recovered : (w : List ℕ → Bool) (m : Folder) (i : List ℕ) → Spares w
+      → AreClear (g.U.UtilityWithStatus.action l.utility) w (steps_of (g.U.UtilityWithStatus.action l.utility) i m
+      l.names) → Shows w (seen (g.D.Disk.told l.fn.streams.disk.now)) (view_in m)
+      → (g.U.UtilityWithStatus.action l.utility).locks ≡ false
+      → RecoversSoFar (g.U.UtilityWithStatus.action l.utility).rule w m
+      (in_turn (λ u n. step_at (g.U.UtilityWithStatus.action l.utility) u i n ∷ []) m l.names)
+      (λ u. in_turn (λ u n. step_at (g.U.UtilityWithStatus.action l.utility) u i n ∷ []) u
+      (drop l.name-index l.names)) l.status
+      (setting g.I.Source g.O.Sink g.E.Sink g.D.Disk l.fn.streams).stage (setting g.I.Source g.O.Sink g.E.Sink g.D.Disk
+      l.streams).stage;
+  said : SpokeSoFar (g.U.UtilityWithStatus.action l.utility).rule (NameMakes (g.U.UtilityWithStatus.action l.utility))
+      l.names l.name-index l.status (g.E.Sink.given l.fn.streams.err.now) (g.E.Sink.given l.streams.err.now);
+  silent : (g.U.UtilityWithStatus.action l.utility).silent ≡ true → g.O.Sink.given l.streams.out.now
+      ≡ g.O.Sink.given l.fn.streams.out.now;
+  same : (g.U.UtilityWithStatus.action l.utility).reads ≡ true → g.D.Disk.told l.streams.disk.now
+      ≡ g.D.Disk.told l.fn.streams.disk.now;
   input_same : g.I.Source.left l.streams.input.now ≡ g.I.Source.left l.fn.streams.input.now;
   input_quiet : g.I.Source.faults l.streams.input.now ≡ g.I.Source.faults l.fn.streams.input.now;
   out_later : g.O.Sink.faults l.fn.streams.out.now ≤ g.O.Sink.faults l.streams.out.now;

@@ -4,10 +4,13 @@ use Rattle.sccs_store.proofs.YFileOwnFiles.{place_others}
 use Rattle.sccs_store.proofs.g_files.place_g.Goals as goal
 
 pub returns-clause-stopped : goal.returns-clause-stopped
-returns-clause-stopped g c = err_map c.place.result (placed_stops c.args.name.now _ _ _ _ _ c.sibling.ensures c.module.ensures) c.place.ensures.half
+returns-clause-stopped g c = err_map c.place.result (placed_stops c.args.name.now _ _ _ _ _ c.sibling.ensures
+    c.module.ensures) c.place.ensures.half
 
 pub returns-clause-calm : goal.returns-clause-calm
-returns-clause-calm g c = ok_map c.place.result (placed_ends c.args.name.now _ _ _ _ _ c.sibling.ensures c.module.ensures) c.place.ensures.done
+returns-clause-calm g c = ok_map c.place.result (placed_ends c.args.name.now _ _ _ _ _ c.sibling.ensures
+    c.module.ensures) c.place.ensures.done
 
 pub returns-clause-others : goal.returns-clause-others
-returns-clause-others g c = place_others c.place.result c.args.name.now c.sibling.result c.module.result _ _ _ c.sibling.ensures c.module.ensures c.place.ensures.done c.place.ensures.half
+returns-clause-others g c = place_others c.place.result c.args.name.now c.sibling.result c.module.result _ _ _
+    c.sibling.ensures c.module.ensures c.place.ensures.done c.place.ensures.half

@@ -9,11 +9,14 @@ sync-requires g c = (only_done c.args.name.now protected IsAny _ _ c.in-Ok.ensur
 
 pub returns-in-Ok-clause-only : goal.returns-in-Ok-clause-only
 returns-in-Ok-clause-only g c =
-    only_both c.args.name.now _ (g.D.Disk.told c.protect.new.self) _ (only_done c.args.name.now protected IsAny _ _ c.in-Ok.ensures.done) (sync_only c.args.name.now _ _ _ _ c.sync.result c.sync.ensures)
+    only_both c.args.name.now _ (g.D.Disk.told c.protect.new.self) _ (only_done c.args.name.now protected IsAny _ _
+    c.in-Ok.ensures.done) (sync_only c.args.name.now _ _ _ _ c.sync.result c.sync.ensures)
 
 pub returns-in-Ok-clause-firm : goal.returns-in-Ok-clause-firm
 returns-in-Ok-clause-firm g c =
-    ok_map c.sync.result (λ done. firm_after c.args.name.now _ (g.D.Disk.told c.protect.new.self) _ (only_done c.args.name.now protected IsAny _ _ c.in-Ok.ensures.done) (sync_firm c.args.name.now _ _ done)) c.sync.ensures.done
+    ok_map c.sync.result (λ done. firm_after c.args.name.now _ (g.D.Disk.told c.protect.new.self) _
+    (only_done c.args.name.now protected IsAny _ _ c.in-Ok.ensures.done) (sync_firm c.args.name.now _ _ done))
+    c.sync.ensures.done
 
 pub returns-in-Err-clause-only : goal.returns-in-Err-clause-only
 returns-in-Err-clause-only g c = only_half c.args.name.now protected IsAny _ _ c.in-Err.ensures.half

@@ -9,4 +9,5 @@ use Rattle.sccs_summary.proofs.entries.has.Goals as goal
 pub returns : goal.returns
 returns c =
     let found : Decides c.contains.result (Contains c.args.serials.now c.args.serial) = search rules in
-    same_from_decides c.contains.result (has c.args.serials.now c.args.serial) found (has_decides c.args.serials.now c.args.serial)
+    same_from_decides c.contains.result (has c.args.serials.now c.args.serial) found
+    (has_decides c.args.serials.now c.args.serial)

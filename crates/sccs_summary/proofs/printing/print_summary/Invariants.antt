@@ -7,5 +7,6 @@ use Rattle.sccs_summary.proofs.printing.print_summary.Given as goal
 abbrev pub invariant-loop-delta : goal.invariant-loop-delta
 invariant-loop-delta g l = record {
   later : g.O.Sink.faults l.fn.out ≤ g.O.Sink.faults l.out;
-  gave : GivesOk (g.O.Sink.given l.fn.out) (g.O.Sink.given l.out) (flat_map (live_text (choice_of l.fn.choices)) (take l.delta-index l.records));
+  gave : GivesOk (g.O.Sink.given l.fn.out) (g.O.Sink.given l.out) (flat_map (live_text (choice_of l.fn.choices))
+      (take l.delta-index l.records));
 }

@@ -11,9 +11,11 @@ returns-in-Ok-true g c = record {
   stays = c.in-Ok-true.ensures.stays;
   further = search rules;
   accepted = search rules;
-  hears = line_answered _ c.args.reader.now c.next_line.new.self c.args.number c.args.parser.now c.next_line.new.line.items (read_as c.with_line.new.parser c.with_line.result)
+  hears = line_answered _ c.args.reader.now c.next_line.new.self c.args.number c.args.parser.now
+      c.next_line.new.line.items (read_as c.with_line.new.parser c.with_line.result)
       (takes_line_at _ _ _ _ c.in-Ok-true.field-0 true c.in-Ok-true.field-0-test c.in-Ok-true.ensures.told)
-      (subst (λ line. AnswersLine (line_after c.args.number c.args.parser.now line) (read_as c.with_line.new.parser c.with_line.result)) c.as_slice.ensures.value c.with_line.ensures);
+      (subst (λ line. AnswersLine (line_after c.args.number c.args.parser.now line)
+      (read_as c.with_line.new.parser c.with_line.result)) c.as_slice.ensures.value c.with_line.ensures);
 }
 
 pub returns-in-Ok-false : goal.returns-in-Ok-false
@@ -23,5 +25,6 @@ returns-in-Ok-false g c = record {
   stays = c.in-Ok-false.ensures.stays;
   further = search rules;
   accepted = search rules;
-  hears = no_line _ c.args.reader.now c.next_line.new.self c.args.number c.args.parser.now c.next_line.new.line.items (takes_line_at _ _ _ _ c.in-Ok-false.field-0 false c.in-Ok-false.field-0-test c.in-Ok-false.ensures.told);
+  hears = no_line _ c.args.reader.now c.next_line.new.self c.args.number c.args.parser.now c.next_line.new.line.items
+      (takes_line_at _ _ _ _ c.in-Ok-false.field-0 false c.in-Ok-false.field-0-test c.in-Ok-false.ensures.told);
 }

@@ -10,6 +10,8 @@ returns g c = record {
   stays = c.pass_line.ensures.stays _;
   further = search rules;
   accepted = search rules;
-  hears = line_answered _ c.args.reader.now c.pass_line.new.self c.args.number c.args.parser.now c.in-Some.line.now (read_as c.with_line-read.new.parser c.with_line-read.result)
-      (c.pass_line.ensures.told _ c.in-Some.line.now c.in-Some.ensures.line refl c.in-Some.ensures.front) c.with_line-read.ensures;
+  hears = line_answered _ c.args.reader.now c.pass_line.new.self c.args.number c.args.parser.now c.in-Some.line.now
+      (read_as c.with_line-read.new.parser c.with_line-read.result)
+      (c.pass_line.ensures.told _ c.in-Some.line.now c.in-Some.ensures.line refl c.in-Some.ensures.front)
+      c.with_line-read.ensures;
 }

@@ -19,7 +19,8 @@ invariant-lines g l = record {
   stays : Stays (bytes_in (seen (g.D.Disk.told l.fn.disk)) l.fn.reader.name) l.fn.reader l.reader;
   kept : Keeps l.parser;
   spelled : IsSpelledSoFar l.parser;
-  goes : GoesLines (bytes_in (seen (g.D.Disk.told l.fn.disk)) l.fn.reader.name) l.fn.reader start 2 l.reader l.parser l.number;
+  goes : GoesLines (bytes_in (seen (g.D.Disk.told l.fn.disk)) l.fn.reader.name) l.fn.reader start 2 l.reader l.parser
+      l.number;
 }
 
 abbrev pub decreases-lines : goal.decreases-lines

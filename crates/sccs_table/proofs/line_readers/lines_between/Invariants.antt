@@ -13,7 +13,8 @@ invariant-pieces g l = record {
   low : l.from ≤ l.at;
   high : l.at ≤ max l.from l.to;
   bound : l.count ≤ l.at - l.from;
-  counted : IfSome (bytes_in (seen (g.D.Disk.told l.fn.disk)) l.name) (λ file. l.count ≡ lf_count (take (l.at - l.from) (drop l.from file)));
+  counted : IfSome (bytes_in (seen (g.D.Disk.told l.fn.disk)) l.name) (λ file. l.count ≡ lf_count
+      (take (l.at - l.from) (drop l.from file)));
 }
 
 abbrev pub decreases-pieces : goal.decreases-pieces

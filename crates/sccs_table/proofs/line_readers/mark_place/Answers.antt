@@ -2,7 +2,8 @@ use Rattle.std.proofs.Common.{◌≡◌, ◌≢◌, ◌<◌, ◌+◌, ◌-◌, �
 use Rattle.std.proofs.lemmas.List.{get_or-drop}
 use Rattle.sccs_table.specs.Runs.{HasNoMark}
 use Rattle.sccs_table.proofs.RunLaws.{no_mark_on, no_mark_to}
-use Rattle.sccs_table.proofs.line_readers.mark_place.Goals.{else-place-gt0-via-then-place-gt0+else-bytes-place-eq10, else-place-gt0-via-else-place-gt0}
+use Rattle.sccs_table.proofs.line_readers.mark_place.Goals.{else-place-gt0-via-then-place-gt0+else-bytes-place-eq10}
+use Rattle.sccs_table.proofs.line_readers.mark_place.Goals.{else-place-gt0-via-else-place-gt0}
 use Rattle.sccs_table.proofs.line_readers.mark_place.Goals as goal
 
 pub returns-then-bytes-place-eq10-clause-first : goal.returns-then-bytes-place-eq10-clause-first
@@ -10,7 +11,8 @@ returns-then-bytes-place-eq10-clause-first c =
     let bytes = c.args.bytes.now in
     let from = c.places.from in
     no_mark_to bytes from c.in-Some.place (omega (arith, c.in-Some.ensures.1)) c.places.invariant.none
-    (λ k low below is. c.in-Some.ensures.2 (from + k) (omega arith) (omega arith) (sym (get_or-drop from bytes k 0) ∙ is))
+    (λ k low below is. c.in-Some.ensures.2 (from + k) (omega arith) (omega arith) (sym (get_or-drop from bytes k 0)
+    ∙ is))
 
 pub places-preserved : goal.places-preserved
 places-preserved c =
@@ -25,7 +27,8 @@ places-preserved c =
     record {
       fits = omega (arith, c.in-Some.ensures.1);
       none = subst (λ n. HasNoMark bytes (n + 1)) at (no_mark_on bytes from (place - from) c.places.invariant.none
-          (λ k low below is. c.in-Some.ensures.2 (from + k) (omega arith) (omega arith) (sym (get_or-drop from bytes k 0) ∙ is))
+          (λ k low below is. c.in-Some.ensures.2 (from + k) (omega arith) (omega arith)
+          (sym (get_or-drop from bytes k 0) ∙ is))
           (λ some. subst (λ n. get_or bytes (n - 1) 0 ≢ 10) (sym at) (last (omega (arith, some, at)))));
     }
 
@@ -34,4 +37,5 @@ returns-clause-first c =
     let bytes = c.args.bytes.now in
     let from = c.places.from in
     no_mark_to bytes from (length bytes) (omega arith) c.places.invariant.none
-    (λ k low below is. c.in_default.ensures (from + k) (omega arith) (omega arith) (sym (get_or-drop from bytes k 0) ∙ is))
+    (λ k low below is. c.in_default.ensures (from + k) (omega arith) (omega arith) (sym (get_or-drop from bytes k 0)
+    ∙ is))

@@ -16,4 +16,6 @@ of_piece-requires-clause-all c =
     subst (CountedTo c.loop-n.count c.args.piece.now) all c.loop-n.invariant.counted
 
 pub returns-clause-none : goal.returns-clause-none
-returns-clause-none c = λ n low. none_below c.loop-n.least c.args.piece.now n c.requires low (λ k within. c.loop-n.invariant.below n k (omega (arith, low, c.loop-n-test.false)) within) (c.has_low.ensures c.if-has_low.false)
+returns-clause-none c = λ n low. none_below c.loop-n.least c.args.piece.now n c.requires low
+    (λ k within. c.loop-n.invariant.below n k (omega (arith, low, c.loop-n-test.false)) within)
+    (c.has_low.ensures c.if-has_low.false)

@@ -8,7 +8,17 @@ use Rattle.sccs_table.proofs.piece_marks.describe.Goals as goal
 pub overflow_add-count : goal.overflow_add-count
 overflow_add-count c =
     let n = c.loop-n.n in
-    omega (arith, c.loop-n.invariant.count, c.loop-n.invariant.end, c.from-count.ensures, ap count_ones c.bits_at-bits.ensures, count_block c.args.piece.now n, count_bound c.args.piece.now (64 * (n + 1)), c.loop-n-test.true)
+    omega (
+      arith,
+      c.loop-n.invariant.count,
+      c.loop-n.invariant.end,
+      c.from-count.ensures,
+      ap count_ones c.bits_at-bits.ensures,
+      count_block c.args.piece.now n,
+      count_bound c.args.piece.now
+          (64 * (n + 1)),
+      c.loop-n-test.true,
+    )
 
 pub loop-n-preserved : goal.loop-n-preserved
 loop-n-preserved c =
@@ -16,17 +26,30 @@ loop-n-preserved c =
     let old = c.loop-n.invariant in
     record {
       blocks = described_on c.loop-n.ends c.loop-n.before _ _ c.args.piece.now n old.blocks
-          (λ m low. get_or-set_other c.loop-n.ends n m c.bits_at-bits.result 0 (λ is. omega arith)) (get_or-set_same c.loop-n.ends n c.bits_at-bits.result 0 (omega (arith, old.ends)) ∙ c.bits_at-bits.ensures)
-          (λ m low. get_or-set_other c.loop-n.before n m c.loop-n.count 0 (λ is. omega arith)) (get_or-set_same c.loop-n.before n c.loop-n.count 0 (omega (arith, old.before)) ∙ old.count);
+          (λ m low. get_or-set_other c.loop-n.ends n m c.bits_at-bits.result 0 (λ is. omega arith))
+          (get_or-set_same c.loop-n.ends n c.bits_at-bits.result 0 (omega (arith, old.ends))
+          ∙ c.bits_at-bits.ensures)
+          (λ m low. get_or-set_other c.loop-n.before n m c.loop-n.count 0 (λ is. omega arith))
+          (get_or-set_same c.loop-n.before n c.loop-n.count 0 (omega (arith, old.before)) ∙ old.count);
       marked = marked_on c.args.piece.now c.loop-n.marked c.with_bit-marked.result n old.marked
-          c.with_bit-marked.ensures.kept (c.with_bit-marked.ensures.last (old.above n (omega arith)) ∙ ap (λ b. bit (not (b == 0))) c.bits_at-found.ensures);
+          c.with_bit-marked.ensures.kept (c.with_bit-marked.ensures.last (old.above n (omega arith))
+          ∙ ap (λ b. bit (not (b == 0))) c.bits_at-found.ensures);
       found = sohs_on c.args.piece.now c.loop-n.sohs _ n old.found
-          (λ m low. get_or-set_other c.loop-n.sohs n m c.bits_at-found.result 0 (λ is. omega arith)) (get_or-set_same c.loop-n.sohs n c.bits_at-found.result 0 (omega (arith, old.sohs)) ∙ c.bits_at-found.ensures);
-      count = omega (arith, old.count, c.from-count.ensures, ap count_ones c.bits_at-bits.ensures, count_block c.args.piece.now n);
+          (λ m low. get_or-set_other c.loop-n.sohs n m c.bits_at-found.result 0 (λ is. omega arith))
+          (get_or-set_same c.loop-n.sohs n c.bits_at-found.result 0 (omega (arith, old.sohs))
+          ∙ c.bits_at-found.ensures);
+      count = omega (
+        arith,
+        old.count,
+        c.from-count.ensures,
+        ap count_ones c.bits_at-bits.ensures,
+        count_block c.args.piece.now n,
+      );
       above = λ k low. c.with_bit-marked.ensures.above k (omega arith) (old.above k (omega arith));
       ends = search rules;
       before = search rules;
       sohs = search rules;
       end = search rules;
-      sum = sum_block c.args.piece.now n c.loop-n.total c.sum_with-total.result old.sum (c.sum_with-total.ensures ∙ ap (λ l. (c.loop-n.total + sum l) % 65536) c.lanes_of.ensures);
+      sum = sum_block c.args.piece.now n c.loop-n.total c.sum_with-total.result old.sum (c.sum_with-total.ensures
+          ∙ ap (λ l. (c.loop-n.total + sum l) % 65536) c.lanes_of.ensures);
     }

@@ -11,11 +11,15 @@ loop-n-preserved c =
     let old = c.loop-n.invariant in
     record {
       marked = marked_on c.args.piece.now c.loop-n.marked c.with_bit-marked.result n old.marked
-          c.with_bit-marked.ensures.kept (c.with_bit-marked.ensures.last (old.above n (omega arith)) ∙ ap (λ b. bit (not (b == 0))) c.bits_at-bits.ensures);
+          c.with_bit-marked.ensures.kept (c.with_bit-marked.ensures.last (old.above n (omega arith))
+          ∙ ap (λ b. bit (not (b == 0))) c.bits_at-bits.ensures);
       sohs = sohs_on c.args.piece.now c.loop-n.sohs _ n old.sohs
-          (λ m low. get_or-set_other c.loop-n.sohs n m c.bits_at-bits.result 0 (λ is. omega arith)) (get_or-set_same c.loop-n.sohs n c.bits_at-bits.result 0 (omega (arith, old.long)) ∙ c.bits_at-bits.ensures);
+          (λ m low. get_or-set_other c.loop-n.sohs n m c.bits_at-bits.result 0 (λ is. omega arith))
+          (get_or-set_same c.loop-n.sohs n c.bits_at-bits.result 0 (omega (arith, old.long))
+          ∙ c.bits_at-bits.ensures);
       above = λ k low. c.with_bit-marked.ensures.above k (omega arith) (old.above k (omega arith));
       long = search rules;
       end = search rules;
-      sum = sum_block c.args.piece.now n c.loop-n.total c.sum_with-total.result old.sum (c.sum_with-total.ensures ∙ ap (λ l. (c.loop-n.total + sum l) % 65536) c.lanes_of.ensures);
+      sum = sum_block c.args.piece.now n c.loop-n.total c.sum_with-total.result old.sum (c.sum_with-total.ensures
+          ∙ ap (λ l. (c.loop-n.total + sum l) % 65536) c.lanes_of.ensures);
     }

@@ -7,7 +7,9 @@ pub returns-then-set-clause-kept : goal.returns-then-set-clause-kept
 returns-then-set-clause-kept c = λ k low. bit_at_set_other w64 c.args.bits c.args.at c.requires k (λ is. omega arith)
 
 pub returns-then-set-clause-last : goal.returns-then-set-clause-last
-returns-then-set-clause-last c = λ none. bit_at_set_same w64 c.args.bits c.args.at c.requires ∙ ap bit (sym c.if-set.true)
+returns-then-set-clause-last c = λ none. bit_at_set_same w64 c.args.bits c.args.at c.requires
+    ∙ ap bit (sym c.if-set.true)
 
 pub returns-then-set-clause-above : goal.returns-then-set-clause-above
-returns-then-set-clause-above c = λ k high none. bit_at_set_other w64 c.args.bits c.args.at c.requires k (λ is. omega arith) ∙ none
+returns-then-set-clause-above c = λ k high none. bit_at_set_other w64 c.args.bits c.args.at c.requires k
+    (λ is. omega arith) ∙ none

@@ -10,4 +10,5 @@ returns-then-first-second c =
     let last = slice_index_or c.args.bytes.now 8 0 in
     let tests = and_parts (first.result && second.result) (nat_eq last 32) c.if-first-second.true in
     let words = and_parts first.result second.result tests.0 in
-    eight_first c.args.bytes.now c.in-len9-up.len_at_least (first.ensures words.0) (second.ensures words.1) (eqb-true last 32 tests.1)
+    eight_first c.args.bytes.now c.in-len9-up.len_at_least (first.ensures words.0) (second.ensures words.1)
+    (eqb-true last 32 tests.1)

@@ -20,10 +20,26 @@ second false x y is = refl
 
 pub returns-then-words-clause-run : goal.returns-then-words-clause-run
 returns-then-words-clause-run g c =
-    runs_as (hushed None c.args.quiet (locking (edit_change c.args.words.now c.args.stamp.now c.args.place.now c.has_heading-heading.result))) (hushed None c.args.quiet (get_in c.args.words.now (caller c.args.stamp.now c.args.place.now) (has_heading c.args.operands.now))) (words_in c.args.operands.now) (words_in c.args.operands.now) c.run_ordinary.result (setting g.I.Source g.O.Sink g.E.Sink g.D.Disk c.args.streams.now) (setting g.I.Source g.O.Sink g.E.Sink g.D.Disk c.run_ordinary.new.streams)
-    (ap (λ (x : Action). hushed None c.args.quiet x) (ap (λ heading. locking (edit_change c.args.words.now c.args.stamp.now c.args.place.now heading)) c.has_heading-heading.ensures ∙ first c.args.words.now.edit _ _ c.if-words.true)) refl c.run_ordinary.ensures.run
+    runs_as (hushed None c.args.quiet (locking (edit_change c.args.words.now c.args.stamp.now c.args.place.now
+    c.has_heading-heading.result))) (hushed None c.args.quiet
+    (get_in c.args.words.now (caller c.args.stamp.now c.args.place.now) (has_heading c.args.operands.now)))
+    (words_in c.args.operands.now) (words_in c.args.operands.now) c.run_ordinary.result
+    (setting g.I.Source g.O.Sink g.E.Sink g.D.Disk c.args.streams.now)
+    (setting g.I.Source g.O.Sink g.E.Sink g.D.Disk c.run_ordinary.new.streams)
+    (ap (λ (x : Action). hushed None c.args.quiet x)
+    (ap (λ heading. locking (edit_change c.args.words.now c.args.stamp.now c.args.place.now heading))
+    c.has_heading-heading.ensures ∙ first c.args.words.now.edit _ _ c.if-words.true)) refl
+    c.run_ordinary.ensures.run
 
 pub returns-else-words-clause-run : goal.returns-else-words-clause-run
 returns-else-words-clause-run g c =
-    runs_as (hushed None c.args.quiet (get_action c.args.words.now c.args.stamp.now c.args.place.now c.has_heading-heading.result)) (hushed None c.args.quiet (get_in c.args.words.now (caller c.args.stamp.now c.args.place.now) (has_heading c.args.operands.now))) (words_in c.args.operands.now) (words_in c.args.operands.now) c.run_ordinary-else-words.result (setting g.I.Source g.O.Sink g.E.Sink g.D.Disk c.args.streams.now) (setting g.I.Source g.O.Sink g.E.Sink g.D.Disk c.run_ordinary-else-words.new.streams)
-    (ap (λ (x : Action). hushed None c.args.quiet x) (ap (λ heading. get_action c.args.words.now c.args.stamp.now c.args.place.now heading) c.has_heading-heading.ensures ∙ second c.args.words.now.edit _ _ c.if-words.false)) refl c.run_ordinary-else-words.ensures.run
+    runs_as (hushed None c.args.quiet (get_action c.args.words.now c.args.stamp.now c.args.place.now
+    c.has_heading-heading.result)) (hushed None c.args.quiet
+    (get_in c.args.words.now (caller c.args.stamp.now c.args.place.now) (has_heading c.args.operands.now)))
+    (words_in c.args.operands.now) (words_in c.args.operands.now) c.run_ordinary-else-words.result
+    (setting g.I.Source g.O.Sink g.E.Sink g.D.Disk c.args.streams.now)
+    (setting g.I.Source g.O.Sink g.E.Sink g.D.Disk c.run_ordinary-else-words.new.streams)
+    (ap (λ (x : Action). hushed None c.args.quiet x)
+    (ap (λ heading. get_action c.args.words.now c.args.stamp.now c.args.place.now heading)
+    c.has_heading-heading.ensures ∙ second c.args.words.now.edit _ _ c.if-words.false)) refl
+    c.run_ordinary-else-words.ensures.run

@@ -8,31 +8,71 @@ use Rattle.sccs_top.proofs.commands.run_two.Goals as goal
 
 pub returns-in-Err-clause-run : goal.returns-in-Err-clause-run
 returns-in-Err-clause-run g c =
-    first_cut (caller c.args.stamp.now c.args.place.now) c.args.first.now c.args.next.now c.in-Err.fault (setting_of g.I.Source g.O.Sink g.E.Sink g.D.Disk c.args.input.now c.args.out.now c.args.err.now c.args.disk.now) (setting_of g.I.Source g.O.Sink g.E.Sink g.D.Disk c.run_meant.new.input c.run_meant.new.out c.run_meant.new.err c.run_meant.new.disk)
-    (subst (λ (r : Result ℕ Fault). RunsMeant (caller c.args.stamp.now c.args.place.now) (Ok c.args.first.now) r (setting_of g.I.Source g.O.Sink g.E.Sink g.D.Disk c.args.input.now c.args.out.now c.args.err.now c.args.disk.now) (setting_of g.I.Source g.O.Sink g.E.Sink g.D.Disk c.run_meant.new.input c.run_meant.new.out c.run_meant.new.err c.run_meant.new.disk)) c.in-Err.is c.run_meant.ensures.run)
+    first_cut (caller c.args.stamp.now c.args.place.now) c.args.first.now c.args.next.now c.in-Err.fault
+    (setting_of g.I.Source g.O.Sink g.E.Sink g.D.Disk c.args.input.now c.args.out.now c.args.err.now
+    c.args.disk.now) (setting_of g.I.Source g.O.Sink g.E.Sink g.D.Disk c.run_meant.new.input c.run_meant.new.out
+    c.run_meant.new.err c.run_meant.new.disk)
+    (subst (λ (r : Result ℕ Fault). RunsMeant (caller c.args.stamp.now c.args.place.now) (Ok c.args.first.now) r
+    (setting_of g.I.Source g.O.Sink g.E.Sink g.D.Disk c.args.input.now c.args.out.now c.args.err.now
+    c.args.disk.now) (setting_of g.I.Source g.O.Sink g.E.Sink g.D.Disk c.run_meant.new.input c.run_meant.new.out
+    c.run_meant.new.err c.run_meant.new.disk)) c.in-Err.is c.run_meant.ensures.run)
 
 pub returns-in-Err-clause-input : goal.returns-in-Err-clause-input
 returns-in-Err-clause-input g c =
-    subst (λ (r : Result ℕ Fault). LeavesInput (caller c.args.stamp.now c.args.place.now) c.args.first.now r (setting_of g.I.Source g.O.Sink g.E.Sink g.D.Disk c.args.input.now c.args.out.now c.args.err.now c.args.disk.now) (setting_of g.I.Source g.O.Sink g.E.Sink g.D.Disk c.run_meant.new.input c.run_meant.new.out c.run_meant.new.err c.run_meant.new.disk)) c.in-Err.is c.run_meant.ensures.input
+    subst (λ (r : Result ℕ Fault). LeavesInput (caller c.args.stamp.now c.args.place.now) c.args.first.now r
+    (setting_of g.I.Source g.O.Sink g.E.Sink g.D.Disk c.args.input.now c.args.out.now c.args.err.now
+    c.args.disk.now) (setting_of g.I.Source g.O.Sink g.E.Sink g.D.Disk c.run_meant.new.input c.run_meant.new.out
+    c.run_meant.new.err c.run_meant.new.disk)) c.in-Err.is c.run_meant.ensures.input
 
 pub returns-then-status-ne0-clause-run : goal.returns-then-status-ne0-clause-run
 returns-then-status-ne0-clause-run g c =
-    first_ends (caller c.args.stamp.now c.args.place.now) c.args.first.now c.args.next.now c.in-Ok.status (setting_of g.I.Source g.O.Sink g.E.Sink g.D.Disk c.args.input.now c.args.out.now c.args.err.now c.args.disk.now) (setting_of g.I.Source g.O.Sink g.E.Sink g.D.Disk c.run_meant.new.input c.run_meant.new.out c.run_meant.new.err c.run_meant.new.disk) c.if-status-ne0.true
-    (subst (λ (r : Result ℕ Fault). RunsMeant (caller c.args.stamp.now c.args.place.now) (Ok c.args.first.now) r (setting_of g.I.Source g.O.Sink g.E.Sink g.D.Disk c.args.input.now c.args.out.now c.args.err.now c.args.disk.now) (setting_of g.I.Source g.O.Sink g.E.Sink g.D.Disk c.run_meant.new.input c.run_meant.new.out c.run_meant.new.err c.run_meant.new.disk)) c.in-Ok.is c.run_meant.ensures.run)
+    first_ends (caller c.args.stamp.now c.args.place.now) c.args.first.now c.args.next.now c.in-Ok.status
+    (setting_of g.I.Source g.O.Sink g.E.Sink g.D.Disk c.args.input.now c.args.out.now c.args.err.now
+    c.args.disk.now) (setting_of g.I.Source g.O.Sink g.E.Sink g.D.Disk c.run_meant.new.input c.run_meant.new.out
+    c.run_meant.new.err c.run_meant.new.disk) c.if-status-ne0.true
+    (subst (λ (r : Result ℕ Fault). RunsMeant (caller c.args.stamp.now c.args.place.now) (Ok c.args.first.now) r
+    (setting_of g.I.Source g.O.Sink g.E.Sink g.D.Disk c.args.input.now c.args.out.now c.args.err.now
+    c.args.disk.now) (setting_of g.I.Source g.O.Sink g.E.Sink g.D.Disk c.run_meant.new.input c.run_meant.new.out
+    c.run_meant.new.err c.run_meant.new.disk)) c.in-Ok.is c.run_meant.ensures.run)
 
 pub returns-then-status-ne0-clause-input : goal.returns-then-status-ne0-clause-input
 returns-then-status-ne0-clause-input g c =
-    subst (λ (r : Result ℕ Fault). LeavesInput (caller c.args.stamp.now c.args.place.now) c.args.first.now r (setting_of g.I.Source g.O.Sink g.E.Sink g.D.Disk c.args.input.now c.args.out.now c.args.err.now c.args.disk.now) (setting_of g.I.Source g.O.Sink g.E.Sink g.D.Disk c.run_meant.new.input c.run_meant.new.out c.run_meant.new.err c.run_meant.new.disk)) c.in-Ok.is c.run_meant.ensures.input
+    subst (λ (r : Result ℕ Fault). LeavesInput (caller c.args.stamp.now c.args.place.now) c.args.first.now r
+    (setting_of g.I.Source g.O.Sink g.E.Sink g.D.Disk c.args.input.now c.args.out.now c.args.err.now
+    c.args.disk.now) (setting_of g.I.Source g.O.Sink g.E.Sink g.D.Disk c.run_meant.new.input c.run_meant.new.out
+    c.run_meant.new.err c.run_meant.new.disk)) c.in-Ok.is c.run_meant.ensures.input
 
 pub returns-clause-run : goal.returns-clause-run
 returns-clause-run g c =
-    both_run (caller c.args.stamp.now c.args.place.now) c.args.first.now c.args.next.now c.run_next.result (setting_of g.I.Source g.O.Sink g.E.Sink g.D.Disk c.args.input.now c.args.out.now c.args.err.now c.args.disk.now) (setting_of g.I.Source g.O.Sink g.E.Sink g.D.Disk c.run_meant.new.input c.run_meant.new.out c.run_meant.new.err c.run_meant.new.disk) (setting_of g.I.Source g.O.Sink g.E.Sink g.D.Disk c.run_meant.new.input c.run_next.new.out c.run_next.new.err c.run_next.new.disk)
-    (subst (λ (status : ℕ). RunsMeant (caller c.args.stamp.now c.args.place.now) (Ok c.args.first.now) (Ok status) (setting_of g.I.Source g.O.Sink g.E.Sink g.D.Disk c.args.input.now c.args.out.now c.args.err.now c.args.disk.now) (setting_of g.I.Source g.O.Sink g.E.Sink g.D.Disk c.run_meant.new.input c.run_meant.new.out c.run_meant.new.err c.run_meant.new.disk)) c.if-status-ne0.false
-    (subst (λ (r : Result ℕ Fault). RunsMeant (caller c.args.stamp.now c.args.place.now) (Ok c.args.first.now) r (setting_of g.I.Source g.O.Sink g.E.Sink g.D.Disk c.args.input.now c.args.out.now c.args.err.now c.args.disk.now) (setting_of g.I.Source g.O.Sink g.E.Sink g.D.Disk c.run_meant.new.input c.run_meant.new.out c.run_meant.new.err c.run_meant.new.disk)) c.in-Ok.is c.run_meant.ensures.run))
-    (next_runs (caller c.args.stamp.now c.args.place.now) c.args.next.now c.run_next.result (quiet g.O.Sink g.E.Sink g.D.Disk c.run_meant.new.out c.run_meant.new.err c.run_meant.new.disk) (quiet g.O.Sink g.E.Sink g.D.Disk c.run_next.new.out c.run_next.new.err c.run_next.new.disk) (g.I.Source.left c.run_meant.new.input) (g.I.Source.faults c.run_meant.new.input) refl refl refl c.run_next.ensures)
+    both_run (caller c.args.stamp.now c.args.place.now) c.args.first.now c.args.next.now c.run_next.result
+    (setting_of g.I.Source g.O.Sink g.E.Sink g.D.Disk c.args.input.now c.args.out.now c.args.err.now
+    c.args.disk.now) (setting_of g.I.Source g.O.Sink g.E.Sink g.D.Disk c.run_meant.new.input c.run_meant.new.out
+    c.run_meant.new.err c.run_meant.new.disk) (setting_of g.I.Source g.O.Sink g.E.Sink g.D.Disk
+    c.run_meant.new.input c.run_next.new.out c.run_next.new.err c.run_next.new.disk)
+    (subst (λ (status : ℕ). RunsMeant (caller c.args.stamp.now c.args.place.now) (Ok c.args.first.now) (Ok status)
+    (setting_of g.I.Source g.O.Sink g.E.Sink g.D.Disk c.args.input.now c.args.out.now c.args.err.now
+    c.args.disk.now) (setting_of g.I.Source g.O.Sink g.E.Sink g.D.Disk c.run_meant.new.input c.run_meant.new.out
+    c.run_meant.new.err c.run_meant.new.disk)) c.if-status-ne0.false
+    (subst (λ (r : Result ℕ Fault). RunsMeant (caller c.args.stamp.now c.args.place.now) (Ok c.args.first.now) r
+    (setting_of g.I.Source g.O.Sink g.E.Sink g.D.Disk c.args.input.now c.args.out.now c.args.err.now
+    c.args.disk.now) (setting_of g.I.Source g.O.Sink g.E.Sink g.D.Disk c.run_meant.new.input c.run_meant.new.out
+    c.run_meant.new.err c.run_meant.new.disk)) c.in-Ok.is c.run_meant.ensures.run))
+    (next_runs (caller c.args.stamp.now c.args.place.now) c.args.next.now c.run_next.result
+    (quiet g.O.Sink g.E.Sink g.D.Disk c.run_meant.new.out c.run_meant.new.err c.run_meant.new.disk)
+    (quiet g.O.Sink g.E.Sink g.D.Disk c.run_next.new.out c.run_next.new.err c.run_next.new.disk)
+    (g.I.Source.left c.run_meant.new.input) (g.I.Source.faults c.run_meant.new.input) refl refl refl
+    c.run_next.ensures)
 
 pub returns-clause-input : goal.returns-clause-input
 returns-clause-input g c =
-    both_leave (caller c.args.stamp.now c.args.place.now) c.args.first.now c.args.next.now c.in-Ok.status c.run_next.result (setting_of g.I.Source g.O.Sink g.E.Sink g.D.Disk c.args.input.now c.args.out.now c.args.err.now c.args.disk.now) (setting_of g.I.Source g.O.Sink g.E.Sink g.D.Disk c.run_meant.new.input c.run_next.new.out c.run_next.new.err c.run_next.new.disk) (quiet g.O.Sink g.E.Sink g.D.Disk c.run_meant.new.out c.run_meant.new.err c.run_meant.new.disk) (quiet g.O.Sink g.E.Sink g.D.Disk c.run_next.new.out c.run_next.new.err c.run_next.new.disk)
-    (subst (λ (r : Result ℕ Fault). LeavesInput (caller c.args.stamp.now c.args.place.now) c.args.first.now r (setting_of g.I.Source g.O.Sink g.E.Sink g.D.Disk c.args.input.now c.args.out.now c.args.err.now c.args.disk.now) (setting_of g.I.Source g.O.Sink g.E.Sink g.D.Disk c.run_meant.new.input c.run_meant.new.out c.run_meant.new.err c.run_meant.new.disk)) c.in-Ok.is c.run_meant.ensures.input)
+    both_leave (caller c.args.stamp.now c.args.place.now) c.args.first.now c.args.next.now c.in-Ok.status
+    c.run_next.result (setting_of g.I.Source g.O.Sink g.E.Sink g.D.Disk c.args.input.now c.args.out.now
+    c.args.err.now c.args.disk.now) (setting_of g.I.Source g.O.Sink g.E.Sink g.D.Disk c.run_meant.new.input
+    c.run_next.new.out c.run_next.new.err c.run_next.new.disk) (quiet g.O.Sink g.E.Sink g.D.Disk c.run_meant.new.out
+    c.run_meant.new.err c.run_meant.new.disk) (quiet g.O.Sink g.E.Sink g.D.Disk c.run_next.new.out
+    c.run_next.new.err c.run_next.new.disk)
+    (subst (λ (r : Result ℕ Fault). LeavesInput (caller c.args.stamp.now c.args.place.now) c.args.first.now r
+    (setting_of g.I.Source g.O.Sink g.E.Sink g.D.Disk c.args.input.now c.args.out.now c.args.err.now
+    c.args.disk.now) (setting_of g.I.Source g.O.Sink g.E.Sink g.D.Disk c.run_meant.new.input c.run_meant.new.out
+    c.run_meant.new.err c.run_meant.new.disk)) c.in-Ok.is c.run_meant.ensures.input)
     refl refl c.run_next.ensures

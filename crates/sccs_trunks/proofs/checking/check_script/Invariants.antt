@@ -7,7 +7,8 @@ abbrev pub invariant-lines : goal.invariant-lines
 invariant-lines l =
     IsPlace l.fn.lines (length l.rest) l.place
     × (l.place.added + length l.rest ≤ length l.fn.script)
-    × (read_on l.fn.lines l.place l.rest ≡ read_on l.fn.lines (record { last = 0; taken = 0; added = 0; struck = 0 }) l.fn.script)
+    × (read_on l.fn.lines l.place l.rest ≡ read_on l.fn.lines (record { last = 0; taken = 0; added = 0; struck = 0 })
+    l.fn.script)
 
 abbrev pub decreases-lines : goal.decreases-lines
 decreases-lines l = length l.rest

@@ -8,11 +8,15 @@ use Rattle.sccs_trunks.proofs.counts.tallies_of.Goals as goal
 
 pub runs-preserved : goal.runs-preserved
 runs-preserved c =
-    let there = slice_get_read c.args.runs.now (length c.args.runs.now) c.runs.at c.in-Some.run'.now refl c.in-Some.ensures.lookup.3.0 c.in-Some.ensures.lookup.1 in
+    let there = slice_get_read c.args.runs.now (length c.args.runs.now) c.runs.at c.in-Some.run'.now refl
+    c.in-Some.ensures.lookup.3.0 c.in-Some.ensures.lookup.1 in
     let next : c.runs.at + 1 ≡ suc c.runs.at = omega arith in
-    next_run (lines_of c.in-Some.run'.now) (run_lines (drop (c.runs.at + 1) c.args.runs.now)) c.runs.tallies.items c.add_run.new.tallies.items c.in_ok-add_run.ensures
-    ∙ (ap (λ k. with_more 1 (tally_of (lines_of c.in-Some.run'.now ++ run_lines (drop k c.args.runs.now))) c.runs.tallies.items) next
-    ∙ (sym (ap (λ l. with_more 1 (tally_of (run_lines l)) c.runs.tallies.items) (from_place c.args.runs.now c.runs.at c.in-Some.run'.now there)) ∙ c.runs.invariant))
+    next_run (lines_of c.in-Some.run'.now) (run_lines (drop (c.runs.at + 1) c.args.runs.now)) c.runs.tallies.items
+    c.add_run.new.tallies.items c.in_ok-add_run.ensures
+    ∙ (ap (λ k. with_more 1 (tally_of (lines_of c.in-Some.run'.now ++ run_lines (drop k c.args.runs.now)))
+    c.runs.tallies.items) next
+    ∙ (sym (ap (λ l. with_more 1 (tally_of (run_lines l)) c.runs.tallies.items)
+    (from_place c.args.runs.now c.runs.at c.in-Some.run'.now there)) ∙ c.runs.invariant))
 
 pub returns : goal.returns
 returns c =

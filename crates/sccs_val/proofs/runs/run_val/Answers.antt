@@ -15,17 +15,22 @@ returns-clause-run g c =
     let words = c.args.words.now in
     let left = g.I.Source.left c.args.streams.now.input.now in
     record {
-      steps = val_makes words c.val-made.result c.conclude.result left _ _ _ _ _ _ c.val-made.ensures.same c.val-made.ensures.told c.conclude.ensures.concludes;
-      stops = val_stops words c.val-made.result c.conclude.result left _ _ _ _ _ _ c.val-made.ensures.same c.val-made.ensures.told c.conclude.ensures.concludes;
-      unlocked = none_unlocked (val_action words) (val_steps words) (IsHeard (takes_lines words) left) _ _ c.val-made.ensures.same;
+      steps = val_makes words c.val-made.result c.conclude.result left _ _ _ _ _ _ c.val-made.ensures.same
+          c.val-made.ensures.told c.conclude.ensures.concludes;
+      stops = val_stops words c.val-made.result c.conclude.result left _ _ _ _ _ _ c.val-made.ensures.same
+          c.val-made.ensures.told c.conclude.ensures.concludes;
+      unlocked = none_unlocked (val_action words) (val_steps words) (IsHeard (takes_lines words) left) _ _
+          c.val-made.ensures.same;
       recovers = λ never. absurd cc;
       speaks =
           step_speaks (val_action words) (codes "-") (codes "-") c.val-made.result c.conclude.result _ _ _ refl refl
-          (quiet_speaks (number_of refusals.TooLong ∷ []) c.val-made.result (codes "-") _ (val_refuses c.val-made.result left c.val-made.ensures.long)) c.conclude.ensures.concludes;
+          (quiet_speaks (number_of refusals.TooLong ∷ []) c.val-made.result (codes "-") _
+          (val_refuses c.val-made.result left c.val-made.ensures.long)) c.conclude.ensures.concludes;
       reads = λ is. c.val-made.ensures.same;
       silent = λ is. absurd cc;
       ignores = search rules;
       causes =
-          val_causes c.val-made.result c.conclude.result _ _ _ _ _ _ _ _ (c.val-made.ensures.causes (g.E.Sink.faults c.args.streams.now.err.now)) c.conclude.ensures.later c.conclude.ensures.cause
+          val_causes c.val-made.result c.conclude.result _ _ _ _ _ _ _ _ (c.val-made.ensures.causes
+          (g.E.Sink.faults c.args.streams.now.err.now)) c.conclude.ensures.later c.conclude.ensures.cause
           c.conclude.ensures.read c.conclude.ensures.broke;
     }

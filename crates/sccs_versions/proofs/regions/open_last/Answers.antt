@@ -10,5 +10,7 @@ returns-clause-ok c = ap (stacked []) c.in_ok-push.ensures.items ∙ stacked_end
 
 pub returns-clause-keep : goal.returns-clause-keep
 returns-clause-keep c =
-    c.keeps_above.ensures ∙ (ap (λ k. if c.args.region.inserts then c.args.region.applied else (not c.args.region.applied && k)) c.requires
-    ∙ ap keeps (sym (ap (stacked []) c.in_ok-push.ensures.items ∙ stacked_end [] c.args.regions.now.items c.args.region)))
+    c.keeps_above.ensures ∙ (ap (λ k. if c.args.region.inserts then c.args.region.applied
+    else (not c.args.region.applied && k)) c.requires
+    ∙ ap keeps (sym (ap (stacked []) c.in_ok-push.ensures.items
+    ∙ stacked_end [] c.args.regions.now.items c.args.region)))

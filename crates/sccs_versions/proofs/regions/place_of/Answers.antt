@@ -7,4 +7,5 @@ use Rattle.sccs_versions.proofs.regions.place_of.Goals as goal
 pub returns-clause-place : goal.returns-clause-place
 returns-clause-place c =
     searched c.args.serial c.args.regions.now c.binary_search_by.result c.requires c.binary_search_by.ensures.bound
-    (c.binary_search_by.ensures.position (λ e. nat_cmp e.serial c.args.serial) (always_returns_same _ _ _ (λ a r f k. search rules)))
+    (c.binary_search_by.ensures.position (λ e. nat_cmp e.serial c.args.serial) (always_returns_same _ _ _
+    (λ a r f k. search rules)))

@@ -5,7 +5,8 @@ use Rattle.sccs_what.proofs.searches.search_piece.Given as goal
 -- what was searched of the piece so far
 abbrev pub invariant-steps : goal.invariant-steps
 invariant-steps g l = record {
-  so_far : Searches l.first l.piece l.at l.fn.search l.search l.fn.held l.held (g.O.Sink.given l.fn.out) (g.O.Sink.given l.out);
+  so_far : Searches l.first l.piece l.at l.fn.search l.search l.fn.held l.held (g.O.Sink.given l.fn.out)
+      (g.O.Sink.given l.out);
   later : g.O.Sink.faults l.fn.out ≤ g.O.Sink.faults l.out;
 }
 

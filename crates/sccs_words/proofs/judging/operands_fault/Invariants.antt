@@ -6,5 +6,6 @@ use Rattle.sccs_words.proofs.judging.operands_fault.Given as goal
 -- no fault so far
 abbrev pub invariant-operands : goal.invariant-operands
 invariant-operands l =
-    (first_from (operand_fault l.rule l.line.uses.now l.line.first) (take l.i l.line.operands.now) (drop l.i l.line.operands.now) ≡ operands_fault l.rule l.line.uses.now l.line.first l.line.operands.now)
+    (first_from (operand_fault l.rule l.line.uses.now l.line.first) (take l.i l.line.operands.now)
+    (drop l.i l.line.operands.now) ≡ operands_fault l.rule l.line.uses.now l.line.first l.line.operands.now)
     × (l.had_dash ≡ list_any is_dash (take l.i l.line.operands.now))

@@ -15,8 +15,12 @@ returns-in_err-begin g c =
       kept = c.in_err-begin.ensures.kept;
       further = search rules;
       goes = search rules;
-      gives = λ file live before found is p. (begin_fails file live before found c.begin.new.self c.in_err-begin.field-0.0 c.from_residual.result exit (c.in_err-begin.ensures.begins file live before found is p)).0;
-      stays = λ file live before found is p. (begin_fails file live before found c.begin.new.self c.in_err-begin.field-0.0 c.from_residual.result exit (c.in_err-begin.ensures.begins file live before found is p)).1;
+      gives = λ file live before found is p. (begin_fails file live before found c.begin.new.self
+          c.in_err-begin.field-0.0 c.from_residual.result exit (c.in_err-begin.ensures.begins file live before found is
+          p)).0;
+      stays = λ file live before found is p. (begin_fails file live before found c.begin.new.self
+          c.in_err-begin.field-0.0 c.from_residual.result exit (c.in_err-begin.ensures.begins file live before found is
+          p)).1;
     }
 
 pub returns : goal.returns
@@ -27,8 +31,12 @@ returns g c =
       frame = search rules;
       first = c.next_behind.ensures.first;
       kept = kept_on c.args.self.now c.begin.new.self c.next_behind.new.self begun.kept c.next_behind.ensures.kept;
-      further = further_on c.args.self.now c.begin.new.self c.next_behind.new.self c.next_behind.result begun.kept begun.onward c.next_behind.ensures.further;
-      goes = λ live before behind. c.next_behind.ensures.goes live before (subst (λ s. Knows live before s) (sym begun.state) behind);
-      gives = λ file live before found is p. c.next_behind.ensures.gives file live before found (file_is ∙ is) (begun.begins file live before found is p);
-      stays = λ file live before found is p. c.next_behind.ensures.stays file live before found (file_is ∙ is) (begun.begins file live before found is p);
+      further = further_on c.args.self.now c.begin.new.self c.next_behind.new.self c.next_behind.result begun.kept
+          begun.onward c.next_behind.ensures.further;
+      goes = λ live before behind. c.next_behind.ensures.goes live before (subst (λ s. Knows live before s)
+          (sym begun.state) behind);
+      gives = λ file live before found is p. c.next_behind.ensures.gives file live before found (file_is ∙ is)
+          (begun.begins file live before found is p);
+      stays = λ file live before found is p. c.next_behind.ensures.stays file live before found (file_is ∙ is)
+          (begun.begins file live before found is p);
     }

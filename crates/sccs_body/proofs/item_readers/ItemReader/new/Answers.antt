@@ -14,7 +14,9 @@ returns-clause-told c = λ file of.
     let from = c.min.result in
     let state = c.in_ok-state.state in
     let live = live_serials front.header.records in
-    let knows : Knows live [] state = subst (λ r. Knows (live_serials r) [] state) c.items.ensures c.in_ok-state.ensures in
+    let knows : Knows live [] state = subst (λ r. Knows (live_serials r) [] state) c.items.ensures
+    c.in_ok-state.ensures in
     let body_is = c.new-2.ensures ∙ ap (body_with state first from) c.new-lines.ensures in
-    subst (λ (b : BodyPlace). ToCome file live [] (items_of file front) (record { body = b; size = front.size; sum = front.sum })) (sym body_is)
+    subst (λ (b : BodyPlace). ToCome file live [] (items_of file front)
+    (record { body = b; size = front.size; sum = front.sum })) (sym body_is)
     (fresh_comes file c.args.name.now front state first from of knows c.min-first.ensures c.min.ensures)

@@ -7,6 +7,7 @@ use Rattle.sccs_disk.proofs.directories.Directory.left.Goals as goal
 pub returns-clause-files : goal.returns-clause-files
 returns-clause-files c =
     let items = c.args.self.now.files.items in
-    left_done c.args.fill c.len-count.result c.loop-file.file-index items (take c.len-count.result c.deref.result.now) c.loop-file.files.items (ap (take c.len-count.result) c.deref.ensures.value)
+    left_done c.args.fill c.len-count.result c.loop-file.file-index items (take c.len-count.result c.deref.result.now)
+    c.loop-file.files.items (ap (take c.len-count.result) c.deref.ensures.value)
     c.loop-file-test.false c.loop-file.invariant
     ∙ ap (λ count. left_files c.args.fill count (map stored items)) (c.len-count.ensures ∙ c.args.named.now.files.ok.0)

@@ -6,4 +6,5 @@ use Rattle.sccs_disk.proofs.directories.Directory.left.Given as goal
 
 -- the files so far with those that come
 abbrev pub invariant-loop-file : goal.invariant-loop-file
-invariant-loop-file l = map stored l.files.items ++ map (λ f. firm (filled l.fill (stored f))) (drop l.file-index l.file-items) ≡ map (λ f. firm (filled l.fill (stored f))) l.file-items
+invariant-loop-file l = map stored l.files.items ++ map (λ f. firm (filled l.fill (stored f)))
+    (drop l.file-index l.file-items) ≡ map (λ f. firm (filled l.fill (stored f))) l.file-items

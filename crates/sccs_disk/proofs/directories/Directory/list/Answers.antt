@@ -11,4 +11,5 @@ pub returns : goal.returns
 returns c =
     let d = c.args.self.now in
     IfOk-weaker c.list.result _ (IsListing (shown (state_of d)))
-    (λ names is. subst (IsListing (shown (state_of d))) (sym is) (listing (state_of d) d.names.names.items (placed d.files.items d.names.names.items d.paired) refl d.names.once)) c.list.ensures
+    (λ names is. subst (IsListing (shown (state_of d))) (sym is) (listing (state_of d) d.names.names.items
+    (placed d.files.items d.names.names.items d.paired) refl d.names.once)) c.list.ensures

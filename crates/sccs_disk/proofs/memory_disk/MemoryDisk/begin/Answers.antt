@@ -7,7 +7,8 @@ pub invariant_of-self : goal.invariant_of-self
 invariant_of-self c =
     let old = c.args.self.now in
     record {
-      current = noted_state (state_of old.start) (state_of old.directory) _ _ old.log.items _ c.note_call.ensures.items old.current;
+      current = noted_state (state_of old.start) (state_of old.directory) _ _ old.log.items _ c.note_call.ensures.items
+          old.current;
       sane = noted_sane (state_of old.start) _ _ old.log.items _ c.note_call.ensures.items old.sane;
       firm = old.firm;
       recorded = c.note_call.ensures.recorded;
@@ -19,12 +20,15 @@ returns-clause-plan c =
     let old = c.args.self.now in
     record {
       planned = (
-        λ e. planned_at old c.deref.result.now _ c.deref.ensures.value (c.must_fail-fails.ensures.0 (c.answer_of.ensures.fails.0 e)),
-        λ x. c.answer_of.ensures.fails.1 (c.must_fail-fails.ensures.1 (planned_by old c.deref.result.now _ c.deref.ensures.value x)),
+        λ e. planned_at old c.deref.result.now _ c.deref.ensures.value (c.must_fail-fails.ensures.0
+            (c.answer_of.ensures.fails.0 e)),
+        λ x. c.answer_of.ensures.fails.1 (c.must_fail-fails.ensures.1
+            (planned_by old c.deref.result.now _ c.deref.ensures.value x)),
       );
       still = λ _. noted_told (state_of old.start) _ _ old.log.items _ c.note_call.ensures.items;
       call = c.one_more-call.ensures.value;
-      before = λ k low. noted_before (state_of old.start) _ _ old.calls k old.log.items _ c.note_call.ensures.items c.one_more-call.ensures.value old.recorded (omega arith) low;
+      before = λ k low. noted_before (state_of old.start) _ _ old.calls k old.log.items _ c.note_call.ensures.items
+          c.one_more-call.ensures.value old.recorded (omega arith) low;
       plan = refl;
       room = refl;
       stop = refl;

@@ -6,5 +6,6 @@ use Rattle.sccs_disk.proofs.memory_disk.MemoryDiskDisk.write_at.Goals as goal
 pub returns-clause-writes : goal.returns-clause-writes
 returns-clause-writes c =
     let call = c.call.ensures in
-    writes_by c.call.result c.write_of-change.result (overwriting c.args.name.now c.args.from c.args.bytes.now) (disk_told c.args.self.now) (disk_told c.call.new.self) c.args.self.now.faults c.call.new.self.faults
+    writes_by c.call.result c.write_of-change.result (overwriting c.args.name.now c.args.from c.args.bytes.now)
+    (disk_told c.args.self.now) (disk_told c.call.new.self) c.args.self.now.faults c.call.new.self.faults
     call.done call.err call.made c.write_of-change.ensures call.later call.cause

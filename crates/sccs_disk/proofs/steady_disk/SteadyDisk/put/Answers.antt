@@ -12,5 +12,6 @@ returns-clause-ok c =
     let d = c.args.self.now.directory in
     let n = c.args.name.now in
     let content : Content = record { bytes = c.args.bytes.now; writable = c.args.writable } in
-    ap shown (c.put.ensures ∙ (ap (λ f. state_put n f (state_of c.reserve.new.self)) c.in_ok-file.ensures ∙ ap (state_put n (firm content)) c.reserve.ensures.same))
+    ap shown (c.put.ensures ∙ (ap (λ f. state_put n f (state_of c.reserve.new.self)) c.in_ok-file.ensures
+    ∙ ap (state_put n (firm content)) c.reserve.ensures.same))
     ∙ shown_put n (firm content) (state_of d) (placed d.files.items d.names.names.items d.paired)

@@ -13,29 +13,39 @@ use Rattle.sccs_changes.proofs.StopLaws.{firm_still}
 
 pub returns-in-Ok-clause-prepares : goal.returns-in-Ok-clause-prepares
 returns-in-Ok-clause-prepares g c = λ err.
-    found_prepares c.args.self.now.heading c.write_rcs.result c.in-Ok.rcs c.args.name.now _ _ (seen (g.D.Disk.told c.find_rcs.new.disk)) _ _ err c.requires.sfile (ap seen c.find_rcs.ensures.frame.same)
+    found_prepares c.args.self.now.heading c.write_rcs.result c.in-Ok.rcs c.args.name.now _ _
+    (seen (g.D.Disk.told c.find_rcs.new.disk)) _ _ err c.requires.sfile (ap seen c.find_rcs.ensures.frame.same)
     c.in-Ok.ensures.finds
     c.write_rcs.ensures.writes
 
 pub returns-in-Ok-clause-needs : goal.returns-in-Ok-clause-needs
-returns-in-Ok-clause-needs g c = rcs_ready c.args.self.now.heading c.write_rcs.result _ c.args.name.now (g.D.Disk.told c.find_rcs.new.disk) _ (there_still _ _ _ c.find_rcs.ensures.frame.same c.requires.locked) c.write_rcs.ensures.writes
+returns-in-Ok-clause-needs g c = rcs_ready c.args.self.now.heading c.write_rcs.result _ c.args.name.now
+    (g.D.Disk.told c.find_rcs.new.disk) _ (there_still _ _ _ c.find_rcs.ensures.frame.same c.requires.locked)
+    c.write_rcs.ensures.writes
 
 pub returns-in-Ok-clause-speaks : goal.returns-in-Ok-clause-speaks
-returns-in-Ok-clause-speaks g c = rcs_speaks c.args.self.now.heading c.write_rcs.result _ c.args.name.now _ _ c.write_rcs.ensures.writes
+returns-in-Ok-clause-speaks g c = rcs_speaks c.args.self.now.heading c.write_rcs.result _ c.args.name.now _ _
+    c.write_rcs.ensures.writes
 
 pub returns-in-Err-clause-prepares : goal.returns-in-Err-clause-prepares
-returns-in-Err-clause-prepares g c = λ err. find_fails c.args.self.now.heading c.in-Err.fault c.args.name.now _ _ _ _ err c.requires.sfile (ap seen c.find_rcs.ensures.frame.same) c.in-Err.ensures.finds
+returns-in-Err-clause-prepares g c = λ err. find_fails c.args.self.now.heading c.in-Err.fault c.args.name.now _ _ _ _
+    err c.requires.sfile (ap seen c.find_rcs.ensures.frame.same) c.in-Err.ensures.finds
 
 pub returns-in-Ok-clause-touches : goal.returns-in-Ok-clause-touches
 returns-in-Ok-clause-touches g c =
-    touches_from (is_working c.args.name.now) _ (g.D.Disk.told c.find_rcs.new.disk) _ c.find_rcs.ensures.frame.same (only_wider (bytes_eq (x_file c.args.name.now)) (is_working c.args.name.now) _ _ (no_x c.args.name.now) c.write_rcs.ensures.touches)
+    touches_from (is_working c.args.name.now) _ (g.D.Disk.told c.find_rcs.new.disk) _ c.find_rcs.ensures.frame.same
+    (only_wider (bytes_eq (x_file c.args.name.now)) (is_working c.args.name.now) _ _ (no_x c.args.name.now)
+    c.write_rcs.ensures.touches)
 
 pub returns-in-Ok-clause-firm : goal.returns-in-Ok-clause-firm
-returns-in-Ok-clause-firm g c = firm_still c.write_rcs.result c.args.name.now _ (g.D.Disk.told c.find_rcs.new.disk) _ c.find_rcs.ensures.frame.same c.write_rcs.ensures.firm
+returns-in-Ok-clause-firm g c = firm_still c.write_rcs.result c.args.name.now _ (g.D.Disk.told c.find_rcs.new.disk) _
+    c.find_rcs.ensures.frame.same c.write_rcs.ensures.firm
 
 pub returns-in-Ok-clause-entries : goal.returns-in-Ok-clause-entries
 returns-in-Ok-clause-entries g c =
-    rcs_settles c.args.self.now.heading c.write_rcs.result _ c.args.name.now (seen (g.D.Disk.told c.args.disk.now)) (g.D.Disk.told c.find_rcs.new.disk) _ c.requires.sfile (ap seen c.find_rcs.ensures.frame.same) c.in-Ok.ensures.free c.write_rcs.ensures.writes
+    rcs_settles c.args.self.now.heading c.write_rcs.result _ c.args.name.now (seen (g.D.Disk.told c.args.disk.now))
+    (g.D.Disk.told c.find_rcs.new.disk) _ c.requires.sfile (ap seen c.find_rcs.ensures.frame.same)
+    c.in-Ok.ensures.free c.write_rcs.ensures.writes
 
 pub returns-in-Err-clause-touches : goal.returns-in-Err-clause-touches
 returns-in-Err-clause-touches g c = same_touches (is_working c.args.name.now) _ _ c.find_rcs.ensures.frame.same

@@ -9,12 +9,16 @@ use Rattle.sccs_steps.proofs.ordinary.OrdinaryUtilityWithStatus.step.Goals as go
 
 pub returns-clause-crash_points : goal.returns-clause-crash_points
 returns-clause-crash_points g c =
-    subst (λ (r : Result ℕ StepFault). StepCrashPointsAs (λ (status : ℕ). status) (ordinary (g.U.Utility.action c.args.self.now.utility)) r c.args.name.now (g.I.Source.left c.args.input.now)
+    subst (λ (r : Result ℕ StepFault). StepCrashPointsAs (λ (status : ℕ). status)
+    (ordinary (g.U.Utility.action c.args.self.now.utility)) r c.args.name.now (g.I.Source.left c.args.input.now)
     (scene (g.D.Disk.told c.args.disk.now) (g.O.Sink.given c.args.out.now) (g.E.Sink.given c.args.err.now))
-    (scene (g.D.Disk.told c.step-made.new.disk) (g.O.Sink.given c.step-made.new.out) (g.E.Sink.given c.step-made.new.err))) (sym c.with_status.ensures)
-    (status_crash_points (g.U.Utility.action c.args.self.now.utility) c.step-made.result c.args.name.now (g.I.Source.left c.args.input.now) _ _ c.step-made.ensures.crash_points)
+    (scene (g.D.Disk.told c.step-made.new.disk) (g.O.Sink.given c.step-made.new.out)
+    (g.E.Sink.given c.step-made.new.err))) (sym c.with_status.ensures)
+    (status_crash_points (g.U.Utility.action c.args.self.now.utility) c.step-made.result c.args.name.now
+    (g.I.Source.left c.args.input.now) _ _ c.step-made.ensures.crash_points)
 
 pub returns-clause-recovers : goal.returns-clause-recovers
 returns-clause-recovers g c =
-    subst (λ (r : Result ℕ StepFault). StepRecovers (ordinary (g.U.Utility.action c.args.self.now.utility)) r (g.D.Disk.told c.args.disk.now) (g.D.Disk.told c.step-made.new.disk)) (sym c.with_status.ensures)
+    subst (λ (r : Result ℕ StepFault). StepRecovers (ordinary (g.U.Utility.action c.args.self.now.utility)) r
+    (g.D.Disk.told c.args.disk.now) (g.D.Disk.told c.step-made.new.disk)) (sym c.with_status.ensures)
     (status_recovers (g.U.Utility.action c.args.self.now.utility) c.step-made.result _ _ c.step-made.ensures.recovers)

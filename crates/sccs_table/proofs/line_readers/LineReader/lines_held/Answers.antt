@@ -8,7 +8,8 @@ overflow_sub-result c =
       arith,
       c.lines_before.ensures,
       c.lines_before-before.ensures,
-      held_lines c.args.self.now c.self.inside.name c.self.inside.piece c.self.inside.start c.self.inside.end c.self.inside.place c.self.inside.limit _ c.args.count c.self.view_is c.requires,
+      held_lines c.args.self.now c.self.inside.name c.self.inside.piece c.self.inside.start c.self.inside.end
+          c.self.inside.place c.self.inside.limit _ c.args.count c.self.view_is c.requires,
     )
 
 pub returns : goal.returns
@@ -17,5 +18,6 @@ returns c =
       arith,
       c.lines_before.ensures,
       c.lines_before-before.ensures,
-      held_lines c.args.self.now c.self.inside.name c.self.inside.piece c.self.inside.start c.self.inside.end c.self.inside.place c.self.inside.limit _ c.args.count c.self.view_is c.requires,
+      held_lines c.args.self.now c.self.inside.name c.self.inside.piece c.self.inside.start c.self.inside.end
+          c.self.inside.place c.self.inside.limit _ c.args.count c.self.view_is c.requires,
     )

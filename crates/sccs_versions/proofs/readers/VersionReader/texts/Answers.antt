@@ -10,13 +10,15 @@ returns-else-keep-clause-shown c = none_shown c.args.self.now
 
 pub returns-then-keep-clause-first : goal.returns-then-keep-clause-first
 returns-then-keep-clause-first c = λ file lines p.
-    let here : VersionPlace = record { set = c.self.inside.set.now; items = c.self.inside.items; regions = c.self.inside.weaver } in
+    let here : VersionPlace =
+    record { set = c.self.inside.set.now; items = c.self.inside.items; regions = c.self.inside.weaver } in
     let are : AreShown here (length c.texts.result.now) = record {
       may = c.texts.ensures.may;
       kept = inl (λ set before text holds. sym (c.keep.ensures set before text holds) ∙ c.if-keep.true);
     } in
     subst (λ (r : VersionPlace). StandFirst r c.texts.result.now lines) c.self.view_is
-    (comes_first file here c.texts.result.now lines are c.texts.ensures.value (c.texts.ensures.first file) (subst (λ r. Coming file r lines) (sym c.self.view_is) p))
+    (comes_first file here c.texts.result.now lines are c.texts.ensures.value (c.texts.ensures.first file)
+    (subst (λ r. Coming file r lines) (sym c.self.view_is) p))
 
 pub returns-then-keep-clause-whole : goal.returns-then-keep-clause-whole
 returns-then-keep-clause-whole c = subst (λ t. (cut t).tail ≡ []) c.texts.ensures.value c.texts.ensures.may.run.0

@@ -6,4 +6,6 @@ use Rattle.sccs_versions.proofs.weavers.Weaver.inserter.Goals as goal
 
 pub returns : goal.returns
 returns c = λ before opens.
-    c.inserter.ensures ∙ ap (λ l. first_insert (stacked [] l)) c.deref.ensures.value ∙ inserter_regions before (stacked [] c.self.inside.regions.items) c.self.invariant.sorted (subst (OpensRegions before) (sym c.self.view_is) opens)
+    c.inserter.ensures ∙ ap (λ l. first_insert (stacked [] l)) c.deref.ensures.value ∙ inserter_regions before
+    (stacked [] c.self.inside.regions.items) c.self.invariant.sorted (subst (OpensRegions before)
+    (sym c.self.view_is) opens)

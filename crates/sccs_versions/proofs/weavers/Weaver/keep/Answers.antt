@@ -6,4 +6,5 @@ use Rattle.sccs_versions.proofs.weavers.Weaver.keep.Goals as goal
 
 pub returns : goal.returns
 returns c = λ set before text holds.
-    c.self.invariant.keep_is ∙ shows_regions set before (stacked [] c.self.inside.regions.items) text c.self.invariant.sorted (subst (Holds set before) (sym c.self.view_is) holds)
+    c.self.invariant.keep_is ∙ shows_regions set before (stacked [] c.self.inside.regions.items) text
+    c.self.invariant.sorted (subst (Holds set before) (sym c.self.view_is) holds)

@@ -13,4 +13,5 @@ returns-clause-puts g c =
     let after : ℕ = g.D.Disk.faults c.append.new.disk in
     let flushed : Writer = record { name = c.self.inside.name; held = []; sums = c.append.new.sum } in
     subst (λ w. PutsText [] w flushed a b before after c.append.result) c.self.view_is
-    (appended_puts [] (take c.self.inside.len c.self.inside.piece) (writer_of c.self.inside) flushed a b before after c.append.result c.append.ensures.writes c.append.ensures.sums refl refl)
+    (appended_puts [] (take c.self.inside.len c.self.inside.piece) (writer_of c.self.inside) flushed a b before after
+    c.append.result c.append.ensures.writes c.append.ensures.sums refl refl)

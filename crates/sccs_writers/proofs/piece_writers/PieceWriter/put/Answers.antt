@@ -7,7 +7,8 @@ use Rattle.sccs_writers.proofs.PutLaws.{appended_puts, held_puts, text_both}
 use Rattle.sccs_writers.proofs.piece_writers.PieceWriter.put.Goals as goal
 
 pub returns-then-hold : goal.returns-then-hold
-returns-then-hold g c = held_puts c.args.bytes.now c.args.self.now c.hold.new.self _ _ _ tt refl (c.if-hold.ensures.held refl) c.if-hold.ensures.name c.if-hold.ensures.sums
+returns-then-hold g c = held_puts c.args.bytes.now c.args.self.now c.hold.new.self _ _ _ tt refl
+    (c.if-hold.ensures.held refl) c.if-hold.ensures.name c.if-hold.ensures.sums
 
 pub returns : goal.returns
 returns g c =
@@ -26,6 +27,9 @@ returns g c =
     subst (λ w. PutsText [] w c.flush.new.self a b before between c.flush.result) same c.flush.ensures.puts in
     let second : PutsText c.args.bytes.now c.flush.new.self put b d between after c.append.result =
     subst (λ w. PutsText c.args.bytes.now w put b d between after c.append.result) (c.self.view_is ∙ kept)
-    (appended_puts c.args.bytes.now c.args.bytes.now (writer_of c.self.inside) put b d between after c.append.result c.append.ensures.writes c.append.ensures.sums
-    (ap (λ front. front ++ c.args.bytes.now) none ∙ (sym (append-nil c.args.bytes.now) ∙ ap (λ rest. c.args.bytes.now ++ rest) (sym none))) refl) in
-    text_both [] c.args.bytes.now c.args.self.now c.flush.new.self put a b d before between after c.flush.result c.append.result c.in_default.field-0 c.in_default.is first second
+    (appended_puts c.args.bytes.now c.args.bytes.now (writer_of c.self.inside) put b d between after c.append.result
+    c.append.ensures.writes c.append.ensures.sums
+    (ap (λ front. front ++ c.args.bytes.now) none ∙ (sym (append-nil c.args.bytes.now)
+    ∙ ap (λ rest. c.args.bytes.now ++ rest) (sym none))) refl) in
+    text_both [] c.args.bytes.now c.args.self.now c.flush.new.self put a b d before between after c.flush.result
+    c.append.result c.in_default.field-0 c.in_default.is first second
