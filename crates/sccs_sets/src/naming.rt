@@ -337,6 +337,9 @@ pub fn serials(alloc: Global, header: &Header, list: &SidList) -> Result<Serials
     ensures live { IfOk result
         (AllByRecursion (λ n. has (live_serials header.now.records) n ≡ true)) }
 {
+    if list.len() == 0 {
+        return Ok(Serials::empty(alloc));
+    }
     let records = header.records.items();
     let Ok(index) = index_for(alloc, records, list) else {
         return Err(SetFault::Memory);
