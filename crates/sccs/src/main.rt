@@ -38,7 +38,7 @@ enum End {
     ReadFault,
     WriteFault,
     DiskFault,
-    NoCrashPoint,
+    NoMoment,
     NoWords,
     NoPlace,
 }
@@ -52,7 +52,7 @@ impl End {
             End::ReadFault => (132, Some("sccs: read fault")),
             End::WriteFault => (133, Some("sccs: write fault")),
             End::DiskFault => (134, Some("sccs: disk fault, run recover")),
-            End::NoCrashPoint => (135, Some("sccs: no moment")),
+            End::NoMoment => (135, Some("sccs: no moment")),
             End::NoWords => (136, Some("sccs: no words")),
             End::NoPlace => (137, Some("sccs: no place")),
         }
@@ -100,12 +100,12 @@ fn moment_of(rt: &impl Clock) -> Result<Moment, End>
     ensures { IfOk result IsMoment }
 {
     let Ok(since) = rt.since_1970() else {
-        return Err(End::NoCrashPoint);
+        return Err(End::NoMoment);
     };
     let Ok(seconds) = i64::try_from(since.as_secs()) else {
-        return Err(End::NoCrashPoint);
+        return Err(End::NoMoment);
     };
-    Moment::from_seconds(seconds).ok_or(End::NoCrashPoint)
+    Moment::from_seconds(seconds).ok_or(End::NoMoment)
 }
 
 // the environment's LOGNAME, where it is a login

@@ -110,7 +110,7 @@ fn put_part<O: Sink, D: Disk>(
     requires table { IsTable file.front.now.header.records }
     requires shown { IsShown file.front.now.header.records delta.now }
     requires facts { facts.now ≡ delta_facts file.front.now.header file.name.now file.place.now delta.now }
-    requires crash_points { HasMoments facts.now }
+    requires moments { HasMoments facts.now }
     ensures same { D.told disk.new ≡ D.told disk.old }
     ensures causes { PrintCauses result (O.faults out.old) (O.faults out.new) (D.faults disk.old) (D.faults disk.new) }
     ensures checks { RefusesWithin file_checks result }
@@ -141,7 +141,7 @@ fn put_parts<O: Sink, D: Disk>(
     requires table { IsTable file.front.now.header.records }
     requires shown { IsShown file.front.now.header.records delta.now }
     requires facts { facts.now ≡ delta_facts file.front.now.header file.name.now file.place.now delta.now }
-    requires crash_points { HasMoments facts.now }
+    requires moments { HasMoments facts.now }
     ensures same { D.told disk.new ≡ D.told disk.old }
     ensures causes { PrintCauses result (O.faults out.old) (O.faults out.new) (D.faults disk.old) (D.faults disk.new) }
     ensures checks { RefusesWithin file_checks result }

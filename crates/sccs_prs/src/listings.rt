@@ -57,7 +57,7 @@ pub fn put_item<O: Sink>(
     out: &mut O,
 ) -> Result<(), StepFault>
     requires spelled { HasSpelling delta.now }
-    requires crash_points { HasMoments facts.now }
+    requires moments { HasMoments facts.now }
     ensures gives { GivesHeld (item_text header.now facts.now delta.now item) result listing.old.buffer
         listing.new.buffer (O.given out.old) (O.given out.new) }
     ensures causes { (disk : ℕ) → PrintCauses result (O.faults out.old) (O.faults out.new) disk disk }

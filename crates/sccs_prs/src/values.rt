@@ -176,7 +176,7 @@ pub fn give_item<S: Sink>(
     out: &mut S,
 ) -> Result<(), Failed>
     requires spelled { HasSpelling delta.now }
-    requires crash_points { HasMoments facts.now }
+    requires moments { HasMoments facts.now }
     ensures { GivesText (item_text header.now facts.now delta.now item) (S.given out.old) (S.given out.new)
         (S.faults out.old) (S.faults out.new) result }
 {
