@@ -1,4 +1,5 @@
-# What the checks of .ci/ that are written for the shell share: they count what they tried, what failed, and what they skipped and why.
+# What the checks of .ci/ that are written for the shell share: they count what they tried, what failed, and what they
+# skipped and why.
 # shellcheck shell=bash
 # The check that reads this sets `check`, its name.
 
@@ -30,8 +31,8 @@ skips() {
     echo "$check: skipped: $*"
 }
 
-# ends: says the counts and ends; with 1 where a trial failed, where nothing was tried though nothing was skipped, or where something was
-# skipped and SCCS_CHECKS=all asks for everything
+# ends: says the counts and ends; with 1 where a trial failed, where nothing was tried though nothing was skipped, or
+# where something was skipped and SCCS_CHECKS=all asks for everything
 ends() {
     [ $((passed + failed + skipped)) != 0 ] || wrong "nothing was tried"
     [ "$skipped" = 0 ] || [ "${SCCS_CHECKS-}" != all ] || wrong "something was skipped, and everything is to be tried"

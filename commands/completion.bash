@@ -5,7 +5,8 @@
 _sccs_words='admin batch branch cdc check clean commit create deledit delget delta diffs edit enter fix get group help import info log print prs prt
     recover rmdel sact sccsdiff soak tell tree unedit unget val what'
 
-# sets `folder` and `path`: the folder of s-files, and the -d that stands before names; gives the place of the word in `place`
+# sets `folder` and `path`: the folder of s-files, and the -d that stands before names; gives the place of the word in
+# `place`
 _sccs_read_front() {
     folder=SCCS path='' place=1
     while [ "$place" -lt "$COMP_CWORD" ]; do

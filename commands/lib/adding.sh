@@ -1,6 +1,7 @@
 # shellcheck shell=sh disable=SC2034,SC2119,SC2120,SC2154
-# delta: diff makes the ed script that the program takes, of the version that was got and of what was edited. The program compares what the
-# script makes with what was edited, and stores nothing where they differ, so whatever comes of this is that text or a refusal.
+# delta: diff makes the ed script that the program takes, of the version that was got and of what was edited. The
+# program compares what the script makes with what was edited, and stores nothing where they differ, so whatever comes
+# of this is that text or a refusal.
 
 delta_command() {
     read_words m:r:y?Ep Ep "$@"
@@ -68,7 +69,8 @@ wants_mrs() {
     [ -f "$1" ] && [ -r "$1" ] && [ -n "$(sed -n '/^[[:cntrl:]]f v/p; /^[[:cntrl:]]t$/q' "$1")" ]
 }
 
-# answer PROMPT: sets `answered` to a line of standard input, which goes on where it ends with a backslash; only at a terminal the prompt stands
+# answer PROMPT: sets `answered` to a line of standard input, which goes on where it ends with a backslash; only at a
+# terminal the prompt stands
 answer() {
     answered=
     [ ! -t 0 ] || printf '%s' "$1"
@@ -109,8 +111,8 @@ is_sid() {
     esac
 }
 
-# find_edit: sets `got`, `new` and `lists` to those of the one edit of the login, and of -r where that is given. A word that isn't of its form
-# is none of an edit, which the program then says.
+# find_edit: sets `got`, `new` and `lists` to those of the one edit of the login, and of -r where that is given. A word
+# that isn't of its form is none of an edit, which the program then says.
 find_edit() {
     find_login
     edits=0 got='' new='' lists='' wanted=''
@@ -179,8 +181,8 @@ refuse_dots() {
     return 1
 }
 
-# add_delta OPERAND: diff and the program stand in one line. What diff does wrong, and what is cut off by a signal, makes another text than what
-# was edited, which the program refuses.
+# add_delta OPERAND: diff and the program stand in one line. What diff does wrong, and what is cut off by a signal,
+# makes another text than what was edited, which the program refuses.
 add_delta() {
     if ! find_edit; then
         let_refuse
@@ -230,7 +232,8 @@ keep_texts() {
     (give_base) >"$work/before" && cat "./$module" >"$work/after"
 }
 
-# explain_delta OPERAND [OPTION]: as give_delta, in a process of its own, with a line behind each refusal where it is asked for
+# explain_delta OPERAND [OPTION]: as give_delta, in a process of its own, with a line behind each refusal where it is
+# asked for
 explain_delta() {
     working=1
     if is_explaining; then

@@ -1,6 +1,6 @@
 # shellcheck shell=sh disable=SC2034,SC2119,SC2120,SC2154
-# admin: the text of a new file and a description are read before anything is locked, wherever they stand. An s-file of a text that may be
-# executed may be so too.
+# admin: the text of a new file and a description are read before anything is locked, wherever they stand. An s-file of
+# a text that may be executed may be so too.
 
 admin_command() {
     read_words 'a:d:e:f:m:r:i?t?y?' '' "$@"
@@ -43,7 +43,8 @@ take_texts() {
     fi
 }
 
-# is_plain_file NAME: a file of the caller's folder, whose name isn't that of a stored file, and which the program finds there
+# is_plain_file NAME: a file of the caller's folder, whose name isn't that of a stored file, and which the program finds
+# there
 is_plain_file() {
     case $1 in
     */* | [spxqz].* | sccs.plan | sccs.intent) return 1 ;;

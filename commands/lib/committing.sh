@@ -51,7 +51,8 @@ refuse_commit() {
     join_status 1
 }
 
-# get_newest: the newest versions of several files of one folder, as files of `base` in one call; sets `newest` to their names and SIDs
+# get_newest: the newest versions of several files of one folder, as files of `base` in one call; sets `newest` to their
+# names and SIDs
 get_newest() {
     newest=/
     eval "set -- $operands"
@@ -73,7 +74,8 @@ get_newest() {
     done <"$work/sids"
 }
 
-# find_changes: each file beside the version that was got; `operands` are those that have changed, `numbers` those of their scripts
+# find_changes: each file beside the version that was got; `operands` are those that have changed, `numbers` those of
+# their scripts
 find_changes() {
     numbers='' number=0
     eval "set -- $operands"

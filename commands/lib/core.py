@@ -5,7 +5,8 @@ import pwd
 import sys
 
 
-# the first lines of the files that rcs2sccs puts beside histories: of symbols, and of deltas with which a file was removed
+# the first lines of the files that rcs2sccs puts beside histories: of symbols, and of deltas with which a file was
+# removed
 TAGS_BEGIN = b'# symbols of RCS files: name, SID, s-file (rcs2sccs)\n'
 DEAD_BEGIN = b'# deltas that say that the file was removed: SID, s-file (rcs2sccs)\n'
 

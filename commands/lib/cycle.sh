@@ -96,8 +96,8 @@ fix_delta() {
     each_file fix_file
 }
 
-# wanted_edit SID: sets `again` to the options by which get -e gives out a SID once more that was taken back: that of its release, or of
-# the delta before it
+# wanted_edit SID: sets `again` to the options by which get -e gives out a SID once more that was taken back: that of
+# its release, or of the delta before it
 wanted_edit() {
     case $1 in
     *.*.*.1) again="-b -r${1%.*.*}" ;;
@@ -106,8 +106,8 @@ wanted_edit() {
     esac
 }
 
-# fix_file FILE: what would be refused is, in a copy of the file, before anything is changed; and the text is in the caller's folder before its
-# delta goes
+# fix_file FILE: what would be refused is, in a copy of the file, before anything is changed; and the text is in the
+# caller's folder before its delta goes
 fix_file() {
     split_operand "$stored"
     if may_be_written "./$module"; then
@@ -140,7 +140,8 @@ rehearse() {
     )
 }
 
-# edited_files: sets `operands` to the files with pending edits, of the operands or of all the folder; a folder stands for its files
+# edited_files: sets `operands` to the files with pending edits, of the operands or of all the folder; a folder stands
+# for its files
 edited_files() {
     [ -n "$operands" ] || { find_folder && add_operand "$found_folder"; }
     eval "set -- $operands"
@@ -204,7 +205,8 @@ show_edit() {
     done <"$folder/p.$module"
 }
 
-# clean: removes the files that can be got again. What is edited stays, and so does a file that may be written and isn't its newest version.
+# clean: removes the files that can be got again. What is edited stays, and so does a file that may be written and isn't
+# its newest version.
 clean_folder() {
     map_words clean "$@"
     takes_only b 'sccs clean [-b] [folder ...]'
@@ -258,7 +260,8 @@ $file
     done
 }
 
-# compare_doubtful: what is its newest version may go all the same; these are got in one call for each folder, into a folder of working files
+# compare_doubtful: what is its newest version may go all the same; these are got in one call for each folder, into a
+# folder of working files
 compare_doubtful() {
     need_work
     mkdir "$work/new" || return
@@ -282,8 +285,8 @@ compare_doubtful() {
     done
 }
 
-# diffs: what was edited, beside the version that was got for it. -r, -c, -i and -x ask for another one; all other options are those of diff,
-# -C its -c.
+# diffs: what was edited, beside the version that was got for it. -r, -c, -i and -x ask for another one; all other
+# options are those of diff, -C its -c.
 show_differences() {
     load comparing
     load adding

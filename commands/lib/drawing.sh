@@ -1,7 +1,8 @@
 # shellcheck shell=sh disable=SC2016,SC2034,SC2154
 # Pictures of histories: the deltas of a file as a tree, and those of several files in time order.
 
-# every delta of a file, also those that were removed: a line that begins with a word which no comment can know, and those of its comment
+# every delta of a file, also those that were removed: a line that begins with a word which no comment can know, and
+# those of its comment
 all_deltas() {
     in_folder "$folder" prs -a -l -c69 "-d${work##*.} :DT: :I: :D: :T: :P: :DS: :DP:\\n:C:" -- "$name"
 }

@@ -1,5 +1,6 @@
 # shellcheck shell=sh disable=SC2034,SC2119,SC2120,SC2154
-# Flags that the program doesn't do: e, of an encoded text, which is read here by a copy without the flag, and y, of the keywords that are replaced.
+# Flags that the program doesn't do: e, of an encoded text, which is read here by a copy without the flag, and y, of the
+# keywords that are replaced.
 
 # the flags as they stand in a file, and the line behind them all; they begin with a byte that is no text
 FLAG_E='^[[:cntrl:]]f e 1$'
@@ -11,8 +12,8 @@ first_flags() {
     LC_ALL=C grep -a -s -m 1 -e "$FLAG_E" -e "$FLAG_Y" -e "$FLAGS_END" "$@"
 }
 
-# may_have_flags WORD..: a file of the current folder, or of that of the environment, among the words may have one of them. What is no file isn't
-# opened, since that could wait for another program.
+# may_have_flags WORD..: a file of the current folder, or of that of the environment, among the words may have one of
+# them. What is no file isn't opened, since that could wait for another program.
 may_have_flags() {
     at=${SCCS_FOLDER:+$SCCS_FOLDER/}
     for word; do
@@ -38,7 +39,8 @@ may_have_flags() {
     return 1
 }
 
-# short_header FILE: reads a header of few lines without a process; 1 where it has a flag, 2 where it has none, 0 where it is longer
+# short_header FILE: reads a header of few lines without a process; 1 where it has a flag, 2 where it has none, 0 where
+# it is longer
 short_header() {
     count=0
     while [ "$count" -lt 40 ] && IFS= read -r line; do
@@ -78,7 +80,8 @@ has_flag() {
     [ -n "$(sed -n "/$1/p; /$FLAGS_END/q" <"$2")" ]
 }
 
-# find_flags: sets `encoded` to the files with an encoded text, and says whose flag y isn't done, where keywords are replaced
+# find_flags: sets `encoded` to the files with an encoded text, and says whose flag y isn't done, where keywords are
+# replaced
 find_flags() {
     flagged=$(with_flags)
     [ -n "$flagged" ] || return 0
@@ -142,7 +145,8 @@ get_encoded() {
     return "$1"
 }
 
-# decode: the bytes of lines of which each has its length and then, for three bytes, four characters of six bits each, from the blank on
+# decode: the bytes of lines of which each has its length and then, for three bytes, four characters of six bits each,
+# from the blank on
 decode() {
     awk '
         BEGIN { for (code = 32; code < 97; code++) six[sprintf("%c", code)] = (code - 32) % 64 }

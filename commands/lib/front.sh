@@ -160,8 +160,8 @@ hand_words() {
     eval "${1}_command $options -- $operands"
 }
 
-# delta, and with delget and deledit a get of each file behind it; the letters of get are its. What deledit has stored stays as it is, where nothing
-# else is asked for.
+# delta, and with delget and deledit a get of each file behind it; the letters of get are its. What deledit has stored
+# stays as it is, where nothing else is asked for.
 hand_delta() {
     if [ "$verb" = delta ]; then
         map_words delta "$@"
@@ -197,8 +197,8 @@ begin_here() {
     eval "explained \"\$folder\" get -e -t \"-r${new%.*}\" -- \"\$name\""
 }
 
-# recover isn't a command of its own, since what is stopped is a file's. A folder, and without operands that of the files, stands also for
-# names of which only a lock or a working file is there.
+# recover isn't a command of its own, since what is stopped is a file's. A folder, and without operands that of the
+# files, stands also for names of which only a lock or a working file is there.
 recover_files() {
     map_words recover "$@"
     [ -n "$operands" ] || { find_folder && add_operand "$found_folder"; }

@@ -1,6 +1,6 @@
 # shellcheck shell=sh disable=SC2034,SC2119,SC2120,SC2154
-# g-files that the program doesn't make itself: of get -G, and of names that beside another folder could be those of stored files. The text
-# is printed into a new file, which then takes the place of the g-file.
+# g-files that the program doesn't make itself: of get -G, and of names that beside another folder could be those of
+# stored files. The text is printed into a new file, which then takes the place of the g-file.
 
 # get_beside OPERAND: the g-file of a file in another folder, or of -G
 get_beside() {
@@ -66,7 +66,8 @@ may_be_written() {
     [ -e "$1" ] && [ -n "$(find "$1" -prune \( -perm -0200 -o -perm -0020 -o -perm -0002 \) 2>&1)" ]
 }
 
-# make_text: the text as get -p gives it, among the working files; what the program then says on standard error but for refusals is its report
+# make_text: the text as get -p gives it, among the working files; what the program then says on standard error but for
+# refusals is its report
 make_text() {
     need_work
     # (that of a file before may not be written any more)
@@ -109,7 +110,8 @@ unget_beside() {
     return "$1"
 }
 
-# add_beside OPERAND: the program doesn't see what was edited, so what it has stored is read back and compared before that goes
+# add_beside OPERAND: the program doesn't see what was edited, so what it has stored is read back and compared before
+# that goes
 add_beside() {
     need_work
     (give_base) >"$work/base" || return

@@ -1,7 +1,9 @@
 # shellcheck shell=sh disable=SC2154
-# Nothing where nothing is added: the shell becomes the program where that takes the words as they stand and nothing is to be explained.
+# Nothing where nothing is added: the shell becomes the program where that takes the words as they stand and nothing is
+# to be explained.
 
-# quick_words WORD..: sets `letters` to those of the options and `within` to the folder of the files; 1 where the words need more
+# quick_words WORD..: sets `letters` to those of the options and `within` to the folder of the files; 1 where the words
+# need more
 quick_words() {
     for word; do
         case $behind$word in
@@ -42,9 +44,9 @@ quick_program() {
     program=$here/../../bin/sccs-core
 }
 
-# quick UTILITY SIGNALS VALUED OWN WORD..: returns where the words need more. SIGNALS are those that the program doesn't hear, VALUED the letters
-# of options with a value, which stands in their word here, and OWN those that the program lacks. The files are those of the current folder, or all
-# of one other.
+# quick UTILITY SIGNALS VALUED OWN WORD..: returns where the words need more. SIGNALS are those that the program doesn't
+# hear, VALUED the letters of options with a value, which stands in their word here, and OWN those that the program
+# lacks. The files are those of the current folder, or all of one other.
 quick() {
     [ -n "${LOGNAME:-}" ] && [ ! -t 2 ] && [ "${SCCS_EXPLAIN:-0}" = 0 ] || return 0
     utility=$1 signals=$2 valued=$3 own=$4 letters='' behind='' within=''
@@ -91,7 +93,8 @@ quick() {
     exec "$program" "$utility" "$@"
 }
 
-# quietly WORD..: a command whose output goes into a pipe; where nobody reads that any more, it ends as others do at SIGPIPE, without a word
+# quietly WORD..: a command whose output goes into a pipe; where nobody reads that any more, it ends as others do at
+# SIGPIPE, without a word
 quietly() {
     told=''
     if [ -p /dev/stderr ]; then

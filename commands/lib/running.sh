@@ -1,6 +1,6 @@
 # shellcheck shell=sh disable=SC2034,SC2119,SC2120,SC2154
-# What all commands stand on: their words, the proved program called for a folder, and how a command ends. (What stands here is used by the
-# files that read it.)
+# What all commands stand on: their words, the proved program called for a folder, and how a command ends. (What stands
+# here is used by the files that read it.)
 
 # nothing of the environment but what sccs(1) names has a say: what is read here is set here first
 IFS=' 	
@@ -37,9 +37,9 @@ quote() {
     quoted="'$quoted$quoting'"
 }
 
-# read_words TAKES OWN WORD..: sets `options` and `operands`, quoted, `given` to the letters of the options, and value_L to the value of
-# the option L. TAKES has `L:` for an option with a value, and `L?` for one whose value stands in its word or not at all; OWN has the
-# letters of those that the program doesn't know, which don't come into `options`.
+# read_words TAKES OWN WORD..: sets `options` and `operands`, quoted, `given` to the letters of the options, and value_L
+# to the value of the option L. TAKES has `L:` for an option with a value, and `L?` for one whose value stands in its
+# word or not at all; OWN has the letters of those that the program doesn't know, which don't come into `options`.
 read_words() {
     takes=$1 own=$2 options='' operands='' given='' flags='' count=0
     shift 2
@@ -149,7 +149,8 @@ is_given() {
     esac
 }
 
-# split_operand OPERAND: sets `folder`, that of the stored file, and its `name` and `module`; of a folder the name is a dot
+# split_operand OPERAND: sets `folder`, that of the stored file, and its `name` and `module`; of a folder the name is a
+# dot
 split_operand() {
     name=${1##*/}
     case $1 in
@@ -163,7 +164,8 @@ split_operand() {
     module=${name#s.}
 }
 
-# is_ambiguous FOLDER NAME: its g-file has the name of a stored file, so that beside another folder the program makes none
+# is_ambiguous FOLDER NAME: its g-file has the name of a stored file, so that beside another folder the program makes
+# none
 is_ambiguous() {
     case $2 in
     s.[spxqz].?* | s.sccs.plan | s.sccs.intent) [ "$1" != . ] ;;
@@ -192,7 +194,8 @@ add_folder() {
     done
 }
 
-# read_names: the operands with the names of standard input in the place of `-`; but for what, those that are no s-file's are passed over
+# read_names: the operands with the names of standard input in the place of `-`; but for what, those that are no
+# s-file's are passed over
 read_names() {
     eval "set -- $operands"
     operands='' count=0
@@ -257,7 +260,8 @@ finish() {
     exit "${interrupted:-$status}"
 }
 
-# the status of several commands is the greatest; that of val has the bits of all; that of what is 0 where one of them found a mark
+# the status of several commands is the greatest; that of val has the bits of all; that of what is 0 where one of them
+# found a mark
 join_status() {
     if [ "$joins" = bits ] && [ "$1" -lt 128 ] && [ "$status" -lt 128 ]; then
         status=$((status | $1))
@@ -278,9 +282,9 @@ is_explaining() {
     esac
 }
 
-# run_program FOLDER WORD..: the shell becomes the program, over the stored files of a folder, or in the folder itself where `entering` is set.
-# What can't be written past a limit of the shell is a fault of the disk, and no end; and where the program may lock a name it hears no
-# signals.
+# run_program FOLDER WORD..: the shell becomes the program, over the stored files of a folder, or in the folder itself
+# where `entering` is set. What can't be written past a limit of the shell is a fault of the disk, and no end; and where
+# the program may lock a name it hears no signals.
 run_program() {
     trap '' XFSZ
     [ -z "$shielded" ] || trap '' HUP INT QUIT TERM
@@ -307,7 +311,8 @@ become() {
     exit
 }
 
-# in_folder FOLDER WORD..: the program in a process of its own; what stops this command meanwhile waits until it has ended
+# in_folder FOLDER WORD..: the program in a process of its own; what stops this command meanwhile waits until it has
+# ended
 in_folder() {
     hear_signals
     working=1
@@ -380,8 +385,9 @@ is_special() {
     esac
 }
 
-# hand_on UTILITY [FUNCTION [READS]]: the operands in their order, those of one folder that follow one another in one call of the program; those
-# that it doesn't do by itself by the function, one after the other. Where the utility reads texts, encoded ones are such.
+# hand_on UTILITY [FUNCTION [READS]]: the operands in their order, those of one folder that follow one another in one
+# call of the program; those that it doesn't do by itself by the function, one after the other. Where the utility reads
+# texts, encoded ones are such.
 hand_on() {
     utility=$1 special=${2:-}
     case "$utility $operands " in

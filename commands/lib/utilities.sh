@@ -7,7 +7,8 @@ load() {
     . "$here/lib/$1.sh"
 }
 
-# -G names the g-file of a single file, and -a a version by its serial, which the program doesn't; System V's -lp is -L, which may stand beside -p
+# -G names the g-file of a single file, and -a a version by its serial, which the program doesn't; System V's -lp is -L,
+# which may stand beside -p
 get_command() {
     ended=''
     for word; do
@@ -255,7 +256,8 @@ what_command() {
     hand_on what
 }
 
-# get_into FOLDER: the newest versions of the operands, unexpanded, as files of a folder of working files; what is reported goes to `sids` there
+# get_into FOLDER: the newest versions of the operands, unexpanded, as files of a folder of working files; what is
+# reported goes to `sids` there
 get_into() {
     eval "set -- $operands"
     from_root=
