@@ -94,7 +94,7 @@ front_word() {
 takes_of() {
     case $1 in
     admin) takes='a:d:e:f:m:r:i?t?y?' ;;
-    get) takes=a:c:i:r:x:G: ;;
+    get) takes=a:${get_takes}G: ;;
     delta | cdc) takes='m:r:y?' ;;
     unget | rmdel) takes=r: ;;
     prs) takes='c:d:r?' ;;

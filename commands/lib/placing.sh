@@ -16,7 +16,7 @@ get_placed() {
     if [ -n "$summary" ]; then
         # (the program refuses both, and -L with -p)
         asked=$given
-        eval "read_words c:i:r:x: lL $options"
+        eval "read_words $get_takes lL $options"
         given=$asked
         take_summary || return
     fi

@@ -2,6 +2,9 @@
 # Nothing where nothing is added: the shell becomes the program where that takes the words as they stand and nothing is
 # to be explained.
 
+# the options of get with a value: as letters, and as read_words takes them
+get_valued=cirx get_takes=c:i:r:x:
+
 # quick_words WORD..: sets `letters` to those of the options and `within` to the folder of the files; 1 where the words
 # need more
 quick_words() {
@@ -130,6 +133,6 @@ quick_front() {
     done
     SCCS_FOLDER=SCCS
     export SCCS_FOLDER
-    quick get 'HUP INT QUIT TERM XFSZ' cirx aG ${option:+"$option"} "$@"
+    quick get 'HUP INT QUIT TERM XFSZ' "$get_valued" aG ${option:+"$option"} "$@"
     unset SCCS_FOLDER
 }

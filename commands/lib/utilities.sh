@@ -19,7 +19,7 @@ get_command() {
         esac
         set -- "$@" "$word"
     done
-    read_words a:c:i:r:x:G: aG "$@"
+    read_words "a:${get_takes}G:" aG "$@"
     plain_cutoff
     ! is_given p && ! is_given g && headed=1
     is_given p && ! is_given e || shielded=1
@@ -40,8 +40,8 @@ summarize_texts() {
     expand_operands
     find_flags
     summarized=$operands
-    eval "read_words c:i:r:x: L $options"
-    eval "read_words c:i:r:x: '' $options"
+    eval "read_words $get_takes L $options"
+    eval "read_words $get_takes '' $options"
     operands=$summarized
     load placing
     each summarize_text
@@ -57,7 +57,7 @@ summarize_text() {
 # get_by_serial WORD..: -a, beside which -r and -t don't count
 get_by_serial() {
     case $value_a in '' | *[!0-9]*) echo "get: -a$value_a: no serial" >&2 && exit 2 ;; esac
-    read_words a:c:i:r:x:G: artG "$@"
+    read_words "a:${get_takes}G:" artG "$@"
     utility='get'
     expand_operands
     find_flags
