@@ -3,6 +3,7 @@
 # to be explained.
 
 # the options of get with a value: as letters, and as read_words takes them
+# shellcheck disable=SC2034
 get_valued=cirx get_takes=c:i:r:x:
 
 # quick_words WORD..: sets `letters` to those of the options and `within` to the folder of the files; 1 where the words
