@@ -102,9 +102,7 @@ impl Change for Admin<'_> {
         _out: &mut O,
         disk: &mut D,
     ) -> Result<Prepared, StepFault> {
-        match find_texts(alloc, self.words, name, input, disk) {
-            Ok(texts) => write_texts(alloc, self.words, self.stamp, &texts, name, disk),
-            Err(fault) => Err(fault),
-        }
+        let texts = find_texts(alloc, self.words, name, input, disk)?;
+        write_texts(alloc, self.words, self.stamp, &texts, name, disk)
     }
 }

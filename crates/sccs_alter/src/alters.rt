@@ -65,10 +65,8 @@ pub fn write_header<D: Disk>(
     ensures read { result ≢ Err faults.ReadFault }
     ensures write { result ≢ Err faults.WriteFault }
 {
-    match write_sfile(alloc, header, copying, name, disk) {
-        Ok(()) => Ok(prepared(alloc)),
-        Err(fault) => Err(StepFault::from(fault)),
-    }
+    write_sfile(alloc, header, copying, name, disk)?;
+    Ok(prepared(alloc))
 }
 
 // writes the x-file of an s-file that was read
@@ -97,10 +95,8 @@ fn write_read<D: Disk>(
     let Ok(copying) = Copying::new(alloc, name, &x.front, Identity) else {
         return Err(StepFault::Memory);
     };
-    match altered_header(alloc, words, x.front.header, x.text.bytes()) {
-        Ok(header) => write_header(alloc, &header, copying, name, disk),
-        Err(fault) => Err(fault),
-    }
+    let header = altered_header(alloc, words, x.front.header, x.text.bytes())?;
+    write_header(alloc, &header, copying, name, disk)
 }
 
 impl Change for Alter<'_> {
@@ -120,9 +116,7 @@ impl Change for Alter<'_> {
         _out: &mut O,
         disk: &mut D,
     ) -> Result<Prepared, StepFault> {
-        match read_both(alloc, self.words, name, disk) {
-            Ok(x) => write_read(alloc, self.words, x, name, disk),
-            Err(fault) => Err(fault),
-        }
+        let x = read_both(alloc, self.words, name, disk)?;
+        write_read(alloc, self.words, x, name, disk)
     }
 }

@@ -57,10 +57,7 @@ fn read_sfile<D: Disk>(alloc: Global, disk: &mut D, name: &Name) -> Result<Front
     ensures checks { RefusesWithin cdc_checks result }
     ensures frame { OnlyReads D.told D.faults disk.old disk.new result }
 {
-    match inspect(alloc, disk, name) {
-        Ok(front) => Ok(front),
-        Err(fault) => Err(StepFault::from(fault)),
-    }
+    Ok(inspect(alloc, disk, name)?)
 }
 
 // the lines of a comment that is given
@@ -99,10 +96,7 @@ fn changed_header(
     ensures checks { RefusesWithin cdc_checks result }
     ensures broke { result ≢ Err faults.DiskFault }
 {
-    let serial = match changeable(&header, words, stamp) {
-        Ok(serial) => serial,
-        Err(fault) => return Err(fault),
-    };
+    let serial = changeable(&header, words, stamp)?;
     let _login = stamp.login.bytes();
     let Ok(changes) = text_changes(alloc, words) else {
         return Err(StepFault::Memory);
@@ -142,10 +136,8 @@ fn write_read<D: Disk>(
     let Ok(copying) = Copying::new(alloc, name, &front, Identity) else {
         return Err(StepFault::Memory);
     };
-    match changed_header(alloc, words, stamp, front.header) {
-        Ok(header) => write_header(alloc, &header, copying, name, disk),
-        Err(fault) => Err(fault),
-    }
+    let header = changed_header(alloc, words, stamp, front.header)?;
+    write_header(alloc, &header, copying, name, disk)
 }
 
 impl Change for Cdc<'_> {
@@ -168,9 +160,7 @@ impl Change for Cdc<'_> {
         _out: &mut O,
         disk: &mut D,
     ) -> Result<Prepared, StepFault> {
-        match read_sfile(alloc, disk, name) {
-            Ok(front) => write_read(alloc, self.words, self.stamp, front, name, disk),
-            Err(fault) => Err(fault),
-        }
+        let front = read_sfile(alloc, disk, name)?;
+        write_read(alloc, self.words, self.stamp, front, name, disk)
     }
 }

@@ -24,10 +24,8 @@ fn check_file<D: Disk>(alloc: Global, disk: &mut D, name: &Name) -> Result<(), S
     ensures checks { RefusesWithin check_checks result }
     ensures frame { OnlyReads D.told D.faults disk.old disk.new result }
 {
-    match inspect(alloc, disk, name) {
-        Ok(_front) => Ok(()),
-        Err(fault) => Err(StepFault::from(fault)),
-    }
+    inspect(alloc, disk, name)?;
+    Ok(())
 }
 
 impl Utility for Check {

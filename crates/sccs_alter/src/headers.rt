@@ -24,14 +24,8 @@ pub fn altered_header(
     ensures checks { RefusesWithin alter_checks result }
     ensures broke { result ≢ Err faults.DiskFault }
 {
-    let description = match described(alloc, words.description, header.description, text) {
-        Ok(description) => description,
-        Err(fault) => return Err(fault),
-    };
-    let flags = match flags_of(alloc, words, header.flags) {
-        Ok(flags) => flags,
-        Err(fault) => return Err(fault),
-    };
+    let description = described(alloc, words.description, header.description, text)?;
+    let flags = flags_of(alloc, words, header.flags)?;
     let Ok(users) = change_users(alloc, header.users, &words.add, &words.erase) else {
         return Err(StepFault::Memory);
     };

@@ -130,16 +130,8 @@ pub fn read_both<D: Disk>(
     ensures checks { RefusesWithin alter_checks result }
     ensures frame { OnlyReads D.told D.faults disk.old disk.new result }
 {
-    match check_there(disk, name) {
-        Ok(()) => {}
-        Err(fault) => return Err(fault),
-    }
-    let text = match read_text(alloc, words.description, name, disk) {
-        Ok(text) => text,
-        Err(fault) => return Err(fault),
-    };
-    match read_sfile(alloc, words.fix, disk, name) {
-        Ok(front) => Ok(Read { front, text }),
-        Err(fault) => Err(StepFault::from(fault)),
-    }
+    check_there(disk, name)?;
+    let text = read_text(alloc, words.description, name, disk)?;
+    let front = read_sfile(alloc, words.fix, disk, name)?;
+    Ok(Read { front, text })
 }

@@ -63,10 +63,8 @@ fn run_next<C: Commands, O: Sink, E: Sink, D: Disk>(
             Err(_) => Err(Fault::WriteFault),
         };
     };
-    match run_entry(alloc, commands, &found.entry, out, err, disk) {
-        Ok(_) => Ok(Some(found.lines)),
-        Err(fault) => Err(fault),
-    }
+    run_entry(alloc, commands, &found.entry, out, err, disk)?;
+    Ok(Some(found.lines))
 }
 
 // runs the entries of lines in turn, up to the first that is none
@@ -95,10 +93,9 @@ fn run_entries<C: Commands, O: Sink, E: Sink, D: Disk>(
             out,
             err,
             disk,
-        ) {
-            Ok(Some(own)) => at += 1 + own as usize,
-            Ok(None) => return Ok(1),
-            Err(fault) => return Err(fault),
+        )? {
+            Some(own) => at += 1 + own as usize,
+            None => return Ok(1),
         }
     }
     Ok(0)

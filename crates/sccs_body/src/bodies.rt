@@ -39,10 +39,9 @@ fn check_items<D: Disk>(disk: &mut D, body: &mut BodyReader) -> Result<(), FileF
         if body.read_on(disk)? {
             continue;
         }
-        match body.next(disk) {
-            Ok(Some(_)) => {}
-            Ok(None) => return Ok(()),
-            Err(fault) => return Err(fault),
+        match body.next(disk)? {
+            Some(_) => {}
+            None => return Ok(()),
         }
     }
 }

@@ -79,10 +79,7 @@ pub fn read_pending<D: Disk>(alloc: Global, disk: &mut D, name: &Name) -> Result
 {
     check_size(disk, name)?;
     let bytes = read_p(alloc, disk, name)?;
-    let front = match inspect(alloc, disk, name) {
-        Ok(front) => front,
-        Err(fault) => return Err(StepFault::from(fault)),
-    };
+    let front = inspect(alloc, disk, name)?;
     let edits = entries(alloc, bytes.bytes())?;
     check_agreement(alloc, &front.header, &edits)?;
     Ok(Pending { front, edits })

@@ -165,10 +165,8 @@ fn copy_next<F: BodyFilter, D: Disk>(
         → CopiesNext F.filter file items copying.old copying.new out.old out.new (D.told disk.old)
         (D.told disk.new) result }
 {
-    match copy_texts(copying, out, disk) {
-        Ok(()) => copy_item(copying, out, disk),
-        Err(fault) => Err(fault),
-    }
+    copy_texts(copying, out, disk)?;
+    copy_item(copying, out, disk)
 }
 
 // copies all items
@@ -189,10 +187,8 @@ fn copy_all<F: BodyFilter, D: Disk>(
         → CopiesAll F.filter items copying.new.filter out.old out.new (D.told disk.old) (D.told disk.new) result }
 {
     'items: loop {
-        match copy_next(copying, out, disk) {
-            Ok(true) => {}
-            Ok(false) => return Ok(()),
-            Err(fault) => return Err(fault),
+        if !copy_next(copying, out, disk)? {
+            return Ok(());
         }
     }
 }

@@ -96,19 +96,16 @@ fn see_next<D: Disk>(
         → ExaminesNext file version.new (bytes_in (seen (D.told disk.old)) check.old.lines.name) lines at.old at.new
         check.old check.new result }
 {
-    match version.next(disk) {
-        Ok(Next::Line(line)) => {
+    match version.next(disk)? {
+        Next::Line(line) => {
             if at.line() == FILE_LIMIT {
                 return Ok(true);
             }
-            match see_base(alloc, at, check, &line, disk) {
-                Ok(()) => Ok(true),
-                Err(fault) => Err(fault),
-            }
+            see_base(alloc, at, check, &line, disk)?;
+            Ok(true)
         }
-        Ok(Next::Hidden) => Ok(true),
-        Ok(Next::End) => Ok(false),
-        Err(fault) => Err(fault),
+        Next::Hidden => Ok(true),
+        Next::End => Ok(false),
     }
 }
 
@@ -131,10 +128,8 @@ fn see_all<D: Disk>(
         result }
 {
     'lines: loop {
-        match see_next(alloc, version, at, check, disk) {
-            Ok(true) => {}
-            Ok(false) => return Ok(()),
-            Err(fault) => return Err(fault),
+        if !see_next(alloc, version, at, check, disk)? {
+            return Ok(());
         }
     }
 }

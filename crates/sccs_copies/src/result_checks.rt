@@ -181,9 +181,9 @@ pub fn first_difference<D: Disk>(
         return Ok(check.differs);
     }
     let mut other = Vec::new(alloc);
-    match next_line(check, &mut other, disk) {
-        Ok(true) => Ok(Some(check.number.saturating_add(1))),
-        Ok(false) => Ok(None),
-        Err(fault) => Err(fault),
+    if next_line(check, &mut other, disk)? {
+        Ok(Some(check.number.saturating_add(1)))
+    } else {
+        Ok(None)
     }
 }

@@ -98,10 +98,8 @@ fn write_x<D: Disk>(
     ensures causes { ChangesDisk D.faults disk.old disk.new result }
 {
     let copying = file.copying;
-    match write_sfile(alloc, &file.header, copying, name, disk) {
-        Ok(()) => Ok(()),
-        Err(fault) => Err(StepFault::from(fault)),
-    }
+    write_sfile(alloc, &file.header, copying, name, disk)?;
+    Ok(())
 }
 
 // prepares the p-file without the entry of a number

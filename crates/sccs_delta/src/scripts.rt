@@ -139,10 +139,7 @@ fn read_base<D: Disk>(
     let Ok(plan) = longest_plan(alloc, script, most_lines(front)) else {
         return Err(StepFault::Memory);
     };
-    match examine(alloc, name, front, set, plan, compares, disk) {
-        Ok(found) => Ok(found),
-        Err(fault) => Err(StepFault::from(fault)),
-    }
+    Ok(examine(alloc, name, front, set, plan, compares, disk)?)
 }
 
 // whether the flag of a letter is there and has a text

@@ -83,8 +83,6 @@ pub fn pending<D: Disk, O: Sink>(
     ensures checks { RefusesWithin sact_checks result }
     ensures causes { PrintCauses result (O.faults out.old) (O.faults out.new) (D.faults disk.old) (D.faults disk.new) }
 {
-    match find_edits(alloc, disk, name) {
-        Ok(edits) => print_pending(alloc, whole, name, &edits, out),
-        Err(fault) => Err(fault),
-    }
+    let edits = find_edits(alloc, disk, name)?;
+    print_pending(alloc, whole, name, &edits, out)
 }

@@ -57,10 +57,10 @@ pub fn check_keywords<D: Disk>(
     if !needs_keywords(words, &front.header) {
         return Ok(());
     }
-    match has_keywords(alloc, name, front, &found.set, disk) {
-        Ok(true) => Ok(()),
-        Ok(false) => Err(StepFault::Refused(Refusal::NoKeywords)),
-        Err(fault) => Err(fault),
+    if has_keywords(alloc, name, front, &found.set, disk)? {
+        Ok(())
+    } else {
+        Err(StepFault::Refused(Refusal::NoKeywords))
     }
 }
 

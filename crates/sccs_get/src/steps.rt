@@ -95,10 +95,7 @@ fn locate<D: Disk>(
     ensures checks { RefusesWithin version_checks result }
     ensures frame { OnlyReads D.told D.faults disk.old disk.new result }
 {
-    let front = match inspect(alloc, disk, name) {
-        Ok(front) => front,
-        Err(fault) => return Err(StepFault::from(fault)),
-    };
+    let front = inspect(alloc, disk, name)?;
     let header = &front.header;
     let found = find_version(alloc, get.words, get.stamp, get.place, name, header)?;
     check_keywords(alloc, get.words, name, &front, &found, disk)?;

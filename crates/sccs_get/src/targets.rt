@@ -69,21 +69,13 @@ pub fn asked_of(alloc: Global, header: &Header, words: &GetWords) -> Result<Aske
         Ok(target) => target,
         Err(NoSid) => return Err(StepFault::Refused(Refusal::NoSid)),
     };
-    let include = match listed(alloc, header, words.include.as_ref()) {
-        Ok(include) => include,
-        Err(fault) => return Err(StepFault::from(fault)),
-    };
-    let exclude = match listed(alloc, header, words.exclude.as_ref()) {
-        Ok(exclude) => exclude,
-        Err(fault) => return Err(StepFault::from(fault)),
-    };
-    match delta_set(alloc, header, target, &include, &exclude, words.cutoff) {
-        Ok(set) => Ok(Asked {
-            target,
-            include,
-            exclude,
-            set,
-        }),
-        Err(fault) => Err(StepFault::from(fault)),
-    }
+    let include = listed(alloc, header, words.include.as_ref())?;
+    let exclude = listed(alloc, header, words.exclude.as_ref())?;
+    let set = delta_set(alloc, header, target, &include, &exclude, words.cutoff)?;
+    Ok(Asked {
+        target,
+        include,
+        exclude,
+        set,
+    })
 }

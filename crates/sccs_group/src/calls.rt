@@ -26,10 +26,9 @@ pub fn clear<D: Disk>(disk: &mut D, name: &Name) -> Result<(), Failed>
     ensures touches { TouchesOnly (bytes_eq name.now) (D.told disk.old) (D.told disk.new) }
     ensures causes { DiskCauses (IsErr result) (D.faults disk.old) (D.faults disk.new) }
 {
-    match disk.size(name) {
-        Ok(Some(_)) => disk.remove(name),
-        Ok(None) => Ok(()),
-        Err(fault) => Err(fault),
+    match disk.size(name)? {
+        Some(_) => disk.remove(name),
+        None => Ok(()),
     }
 }
 
@@ -41,10 +40,9 @@ pub fn take_place<D: Disk>(disk: &mut D, from: &Name, to: &Name) -> Result<(), F
     ensures call { MayCall (Rename from.now to.now) from.now (D.told disk.old) (D.told disk.new) }
     ensures causes { DiskCauses (IsErr result) (D.faults disk.old) (D.faults disk.new) }
 {
-    match disk.size(from) {
-        Ok(Some(_)) => disk.rename(from, to),
-        Ok(None) => Ok(()),
-        Err(fault) => Err(fault),
+    match disk.size(from)? {
+        Some(_) => disk.rename(from, to),
+        None => Ok(()),
     }
 }
 

@@ -45,10 +45,8 @@ fn announce<D: Disk>(
     ensures others { KeepsOthers (is_own_of_group members.now) (D.told disk.old) (D.told disk.new) }
     ensures causes { DiskCauses (IsErr result) (D.faults disk.old) (D.faults disk.new) }
 {
-    match disk.rename(plan, intent) {
-        Ok(()) => complete(disk, intent, members),
-        Err(fault) => Err(fault),
-    }
+    disk.rename(plan, intent)?;
+    complete(disk, intent, members)
 }
 
 // commits members with the text of their intent
@@ -76,12 +74,10 @@ fn commit_text<D: Disk>(
     ensures others { KeepsOthers (is_own_of_group members.now) (D.told disk.old) (D.told disk.new) }
     ensures causes { DiskCauses (IsErrOf result DiskRefusal.Failed) (D.faults disk.old) (D.faults disk.new) }
 {
-    match write_anew(disk, plan, text) {
-        Ok(()) => match announce(disk, plan, intent, members) {
-            Ok(()) => Ok(()),
-            Err(_) => Err(DiskRefusal::Failed),
-        },
-        Err(fault) => Err(fault),
+    write_anew(disk, plan, text)?;
+    match announce(disk, plan, intent, members) {
+        Ok(()) => Ok(()),
+        Err(_) => Err(DiskRefusal::Failed),
     }
 }
 

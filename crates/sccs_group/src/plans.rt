@@ -27,12 +27,10 @@ fn append_text<D: Disk>(disk: &mut D, name: &Name, text: &[u8]) -> Result<(), Di
     ensures firm { OnOk result (Leaves (IsFirm name.now) (D.told disk.old) (D.told disk.new)) }
     ensures causes { DiskCauses (IsErrOf result DiskRefusal.Failed) (D.faults disk.old) (D.faults disk.new) }
 {
-    match disk.append(name, text) {
-        Ok(()) => match disk.sync(name) {
-            Ok(()) => Ok(()),
-            Err(_) => Err(DiskRefusal::Failed),
-        },
-        Err(fault) => Err(fault),
+    disk.append(name, text)?;
+    match disk.sync(name) {
+        Ok(()) => Ok(()),
+        Err(_) => Err(DiskRefusal::Failed),
     }
 }
 

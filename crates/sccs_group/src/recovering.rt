@@ -146,12 +146,10 @@ fn finish_intent<D: Disk>(alloc: Global, disk: &mut D, intent: &Name) -> Result<
         (D.told disk.old) (D.told disk.new)) }
     ensures causes { DiskCauses (IsErrOf result GroupFault.Failed) (D.faults disk.old) (D.faults disk.new) }
 {
-    match read_members(alloc, disk, intent) {
-        Ok(found) => match finish_found(disk, intent, &found) {
-            Ok(answer) => Ok(answer),
-            Err(_) => Err(GroupFault::Failed),
-        },
-        Err(fault) => Err(fault),
+    let found = read_members(alloc, disk, intent)?;
+    match finish_found(disk, intent, &found) {
+        Ok(answer) => Ok(answer),
+        Err(_) => Err(GroupFault::Failed),
     }
 }
 

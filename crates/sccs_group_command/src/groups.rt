@@ -100,10 +100,8 @@ fn finish_joint<O: Sink, E: Sink, D: Disk>(
     ensures causes { StepCauses result (counts 0 (O.faults out.old) (E.faults err.old) (D.faults disk.old))
         (counts 0 (O.faults out.new) (E.faults err.new) (D.faults disk.new)) }
 {
-    match commit_joint(alloc, joint, made, disk) {
-        Ok(()) => report(&joint.said, out, err),
-        Err(fault) => Err(fault),
-    }
+    commit_joint(alloc, joint, made, disk)?;
+    report(&joint.said, out, err)
 }
 
 // commits prepared entries, and reports them

@@ -113,10 +113,9 @@ pub fn read_group(alloc: Global, lines: &[Line]) -> Result<GroupEntries, GroupFa
     let mut at = 0;
     'entries: while at < lines.len() {
         let line = lines[at].bytes();
-        match add_entry(alloc, &mut entries, line, &lines[at + 1..]) {
-            Ok(Some(own)) => at += 1 + own as usize,
-            Ok(None) => return Err(GroupFault::BadEntry(at as u64 + 1)),
-            Err(fault) => return Err(fault),
+        match add_entry(alloc, &mut entries, line, &lines[at + 1..])? {
+            Some(own) => at += 1 + own as usize,
+            None => return Err(GroupFault::BadEntry(at as u64 + 1)),
         }
     }
     some_of(entries)

@@ -195,10 +195,7 @@ pub fn read_edits(alloc: Global, bytes: &[u8]) -> Result<Edits, PfileFault>
     let mut rest = bytes;
     let mut number: u64 = 1;
     'lines: while !rest.is_empty() {
-        let (edit, more) = match next_entry(alloc, number, rest) {
-            Ok(next) => next,
-            Err(fault) => return Err(fault),
-        };
+        let (edit, more) = next_entry(alloc, number, rest)?;
         let Ok(()) = edits.push(edit) else {
             return Err(PfileFault::Memory);
         };

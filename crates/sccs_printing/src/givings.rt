@@ -316,14 +316,13 @@ fn give_next<O: Sink, D: Disk>(
         (O.given out.old) (D.told disk.old)) (target_bytes (file_of giving.old.target) (O.given out.new)
         (D.told disk.new)) }
 {
-    match version.next(disk) {
-        Ok(Next::Line(line)) => match giving.give_line(version.inserter(), &line, out, disk) {
+    match version.next(disk)? {
+        Next::Line(line) => match giving.give_line(version.inserter(), &line, out, disk) {
             Ok(()) => Ok(true),
             Err(fault) => Err(fault),
         },
-        Ok(Next::Hidden) => Ok(true),
-        Ok(Next::End) => Ok(false),
-        Err(fault) => Err(StepFault::from(fault)),
+        Next::Hidden => Ok(true),
+        Next::End => Ok(false),
     }
 }
 
@@ -350,14 +349,9 @@ pub fn give_all<O: Sink, D: Disk>(
         (D.told disk.new))) }
 {
     'lines: loop {
-        match give_run(giving, version, out, disk) {
-            Ok(()) => {}
-            Err(fault) => return Err(fault),
-        }
-        match give_next(giving, version, out, disk) {
-            Ok(true) => {}
-            Ok(false) => return Ok(()),
-            Err(fault) => return Err(fault),
+        give_run(giving, version, out, disk)?;
+        if !give_next(giving, version, out, disk)? {
+            return Ok(());
         }
     }
 }

@@ -47,11 +47,10 @@ fn search_next<D: Disk>(
         ≡ Some file → Coming file version.old lines
         → SearchesNextLine file version.new lines result }
 {
-    match version.next(disk) {
-        Ok(Next::Line(line)) => Ok(Some(has_keyword(line.bytes()))),
-        Ok(Next::Hidden) => Ok(Some(false)),
-        Ok(Next::End) => Ok(None),
-        Err(fault) => Err(StepFault::from(fault)),
+    match version.next(disk)? {
+        Next::Line(line) => Ok(Some(has_keyword(line.bytes()))),
+        Next::Hidden => Ok(Some(false)),
+        Next::End => Ok(None),
     }
 }
 
@@ -67,10 +66,9 @@ fn search_all<D: Disk>(version: &mut VersionReader<'_>, disk: &mut D) -> Result<
     let mut found = false;
     'lines: loop {
         let run = search_run(version);
-        match search_next(version, disk) {
-            Ok(Some(some)) => found = found | run | some,
-            Ok(None) => return Ok(found | run),
-            Err(fault) => return Err(fault),
+        match search_next(version, disk)? {
+            Some(some) => found = found | run | some,
+            None => return Ok(found | run),
         }
     }
 }

@@ -112,9 +112,7 @@ impl Change for Import {
         _out: &mut O,
         disk: &mut D,
     ) -> Result<Prepared, StepFault> {
-        match find_rcs(alloc, name, disk) {
-            Ok(rcs) => write_rcs(alloc, &rcs, self.heading, name, disk),
-            Err(fault) => Err(fault),
-        }
+        let rcs = find_rcs(alloc, name, disk)?;
+        write_rcs(alloc, &rcs, self.heading, name, disk)
     }
 }

@@ -339,13 +339,11 @@ fn revisions_of(alloc: Global, file: &RcsFile) -> Result<Revisions, RcsFault>
 fn with_texts(revisions: Revisions, description: Text) -> Result<Rcs, RcsFault>
     ensures { ReadsRcs result (rcs_with description revisions (trunk_scripts revisions)) }
 {
-    match check_texts(revisions.items()) {
-        Ok(()) => Ok(Rcs {
-            revisions,
-            description,
-        }),
-        Err(fault) => Err(fault),
-    }
+    check_texts(revisions.items())?;
+    Ok(Rcs {
+        revisions,
+        description,
+    })
 }
 
 // the trunk of what was read of a file
@@ -358,10 +356,8 @@ fn rcs_of(alloc: Global, file: &RcsFile) -> Result<Rcs, RcsFault>
     if first_with_soh(description.items()).is_some() {
         return Err(RcsFault::BadRevision(0));
     }
-    match revisions_of(alloc, file) {
-        Ok(revisions) => with_texts(revisions, description),
-        Err(fault) => Err(fault),
-    }
+    let revisions = revisions_of(alloc, file)?;
+    with_texts(revisions, description)
 }
 
 /// The trunk of an RCS file: rcsfile(5). A byte at fault comes before all else, then a description
@@ -370,8 +366,6 @@ fn rcs_of(alloc: Global, file: &RcsFile) -> Result<Rcs, RcsFault>
 pub fn read_rcs(alloc: Global, bytes: &[u8]) -> Result<Rcs, RcsFault>
     ensures { ReadsRcs result (rcs_read bytes.now) }
 {
-    match read_file(alloc, bytes) {
-        Ok(file) => rcs_of(alloc, &file),
-        Err(fault) => Err(fault),
-    }
+    let file = read_file(alloc, bytes)?;
+    rcs_of(alloc, &file)
 }

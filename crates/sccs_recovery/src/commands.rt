@@ -73,9 +73,7 @@ impl Utility for Recover<'_> {
         _err: &mut E,
         disk: &mut D,
     ) -> Result<(), StepFault> {
-        match recover_free(alloc, disk, name) {
-            Ok(found) => say(name, was_locked(found, self.freed, name), out),
-            Err(fault) => Err(fault),
-        }
+        let found = recover_free(alloc, disk, name)?;
+        say(name, was_locked(found, self.freed, name), out)
     }
 }

@@ -63,8 +63,6 @@ pub fn recover_free<D: Disk>(
     ensures ends { RecoversName name.now (D.told disk.old) (D.told disk.new) (D.faults disk.old) (D.faults disk.new)
         result }
 {
-    match check_intent(alloc, disk) {
-        Ok(()) => recover(alloc, disk, name),
-        Err(fault) => Err(fault),
-    }
+    check_intent(alloc, disk)?;
+    recover(alloc, disk, name)
 }

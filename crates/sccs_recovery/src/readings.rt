@@ -54,10 +54,7 @@ fn read_there<D: Disk>(alloc: Global, disk: &mut D, name: &Name) -> Result<Optio
     ensures causes { DiskCauses (IsErrOf result StepFault.DiskFault) (D.faults disk.old) (D.faults disk.new) }
     ensures within { IsWithin result }
 {
-    match inspect(alloc, disk, name) {
-        Ok(front) => Ok(Some(front)),
-        Err(fault) => Err(StepFault::from(fault)),
-    }
+    Ok(Some(inspect(alloc, disk, name)?))
 }
 
 // the front of an s-file, where it is there
@@ -123,10 +120,8 @@ fn left_with<D: Disk>(
     ensures causes { DiskCauses (IsErrOf result StepFault.DiskFault) (D.faults disk.old) (D.faults disk.new) }
     ensures within { IsWithin result }
 {
-    match read_s(alloc, disk, name) {
-        Ok(front) => left_of_bytes(alloc, bytes, front),
-        Err(fault) => Err(fault),
-    }
+    let front = read_s(alloc, disk, name)?;
+    left_of_bytes(alloc, bytes, front)
 }
 
 /// Reads the s-file and the p-file of a name, where they are there, and answers what recovery makes of
@@ -139,8 +134,6 @@ pub fn read_left<D: Disk>(alloc: Global, disk: &mut D, name: &Name) -> Result<Pf
     ensures causes { DiskCauses (IsErrOf result StepFault.DiskFault) (D.faults disk.old) (D.faults disk.new) }
     ensures within { IsWithin result }
 {
-    match read_p(alloc, disk, name) {
-        Ok(bytes) => left_with(alloc, bytes, disk, name),
-        Err(fault) => Err(fault),
-    }
+    let bytes = read_p(alloc, disk, name)?;
+    left_with(alloc, bytes, disk, name)
 }

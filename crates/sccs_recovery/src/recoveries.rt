@@ -148,10 +148,8 @@ fn unlock<D: Disk>(alloc: Global, disk: &mut D, name: &Name) -> Result<(), StepF
     ensures ends { RecoversName name.now (D.told disk.old) (D.told disk.new) (D.faults disk.old) (D.faults disk.new)
         result }
 {
-    match read_left(alloc, disk, name) {
-        Ok(left) => finish(&left, disk, name),
-        Err(fault) => Err(fault),
-    }
+    let left = read_left(alloc, disk, name)?;
+    finish(&left, disk, name)
 }
 
 // recovers a name whose z-file isn't there: its y-file goes
@@ -167,10 +165,8 @@ fn tidy<D: Disk>(disk: &mut D, name: &Name) -> Result<(), Failed>
     ensures firm { LeavesFirm (D.told disk.old) (D.told disk.new) }
     ensures causes { DiskCauses (IsErr result) (D.faults disk.old) (D.faults disk.new) }
 {
-    match clear_sibling(disk, name, b'y') {
-        Ok(()) => disk.sync_names(),
-        Err(fault) => Err(fault),
-    }
+    clear_sibling(disk, name, b'y')?;
+    disk.sync_names()
 }
 
 /// Finishes or undoes what a step that was stopped had begun on a name. Where its z-file is there, the

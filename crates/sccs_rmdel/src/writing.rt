@@ -94,10 +94,8 @@ fn write_x<D: Disk>(
     ensures checks { RefusesWithin rmdel_checks result }
     ensures causes { ChangesDisk D.faults disk.old disk.new result }
 {
-    match write_sfile(alloc, header, copying, name, disk) {
-        Ok(()) => Ok(()),
-        Err(fault) => Err(StepFault::from(fault)),
-    }
+    write_sfile(alloc, header, copying, name, disk)?;
+    Ok(())
 }
 
 // what is prepared where the x-file is the s-file anew

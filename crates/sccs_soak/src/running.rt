@@ -59,10 +59,7 @@ fn run_round<C: Commands, O: Sink, E: Sink, D: Disk>(
         (quiet O.Sink E.Sink D.Disk out.old err.old disk.old) (quiet O.Sink E.Sink D.Disk out.new err.new disk.new) }
 {
     let edit = edit_command(alloc, round, turn);
-    let status = match run_made(alloc, commands, edit, out, err, disk) {
-        Ok(status) => status,
-        Err(fault) => return Err(fault),
-    };
+    let status = run_made(alloc, commands, edit, out, err, disk)?;
     if status != 0 {
         return Ok(status);
     }
@@ -147,10 +144,7 @@ fn run_rounds<C: Commands, O: Sink, E: Sink, D: Disk>(
         let choice = draws.draw();
         let place = draws.draw();
         let turn = Turn::of(choice, place, lines);
-        let status = match run_round(alloc, commands, round, turn, out, err, disk) {
-            Ok(status) => status,
-            Err(fault) => return Err(fault),
-        };
+        let status = run_round(alloc, commands, round, turn, out, err, disk)?;
         if status != 0 {
             return Ok(status);
         }
@@ -177,10 +171,7 @@ pub fn run_soak<C: Commands, O: Sink, E: Sink, D: Disk>(
         (quiet O.Sink E.Sink D.Disk out.old err.old disk.old) (quiet O.Sink E.Sink D.Disk out.new err.new disk.new) }
 {
     let first = first_command(alloc);
-    let status = match run_made(alloc, commands, first, out, err, disk) {
-        Ok(status) => status,
-        Err(fault) => return Err(fault),
-    };
+    let status = run_made(alloc, commands, first, out, err, disk)?;
     if status != 0 {
         return Ok(status);
     }

@@ -156,10 +156,7 @@ fn print_summary<O: Sink, D: Disk>(
         → PrintsAll (summary_text rounds (Some bytes) front.now.header.records items) result (O.given out.old)
         (O.given out.new) }
 {
-    let lines = match trunk_lines(alloc, name, front, disk) {
-        Ok(lines) => lines,
-        Err(fault) => return Err(fault),
-    };
+    let lines = trunk_lines(alloc, name, front, disk)?;
     let deltas = live_count(front.header.records.items());
     match give_summary(rounds, deltas, lines, front.sum, out) {
         Ok(()) => Ok(()),
@@ -181,10 +178,7 @@ fn summarize<O: Sink, D: Disk>(
     ensures causes { PrintCauses result (O.faults out.old) (O.faults out.new) (D.faults disk.old) (D.faults disk.new) }
     ensures checks { RefusesWithin prs_checks result }
 {
-    let front = match inspect(alloc, disk, name) {
-        Ok(front) => front,
-        Err(fault) => return Err(StepFault::from(fault)),
-    };
+    let front = inspect(alloc, disk, name)?;
     print_summary(alloc, rounds, name, &front, out, disk)
 }
 

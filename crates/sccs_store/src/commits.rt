@@ -100,10 +100,8 @@ fn unlock<D: Disk>(disk: &mut D, name: &Name) -> Result<(), Failed>
     ensures half { OnErr result (HalfUnlocks (z_file name.now) (D.told disk.old) (D.told disk.new)) }
     ensures causes { DiskCauses (IsErr result) (D.faults disk.old) (D.faults disk.new) }
 {
-    match disk.remove(&name.sibling(b'z')) {
-        Ok(()) => disk.sync_names(),
-        Err(fault) => Err(fault),
-    }
+    disk.remove(&name.sibling(b'z'))?;
+    disk.sync_names()
 }
 
 /// Puts the prepared files in the place of the old ones: x over the s-file, then q over the p-file, or

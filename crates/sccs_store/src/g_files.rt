@@ -21,10 +21,9 @@ pub fn is_writable_g<D: Disk>(disk: &mut D, name: &Name) -> Result<bool, Failed>
     ensures same { D.told disk.new ≡ D.told disk.old }
     ensures causes { DiskCauses (IsErr result) (D.faults disk.old) (D.faults disk.new) }
 {
-    match disk.writable(&name.module()) {
-        Ok(Some(writable)) => Ok(writable),
-        Ok(None) => Ok(false),
-        Err(fault) => Err(fault),
+    match disk.writable(&name.module())? {
+        Some(writable) => Ok(writable),
+        None => Ok(false),
     }
 }
 
@@ -38,10 +37,8 @@ fn place<D: Disk>(disk: &mut D, from: &Name, to: &Name) -> Result<(), Failed>
     ensures half { OnErr result (HalfPlaces from.now to.now (D.told disk.old) (D.told disk.new)) }
     ensures causes { DiskCauses (IsErr result) (D.faults disk.old) (D.faults disk.new) }
 {
-    match disk.rename(from, to) {
-        Ok(()) => disk.sync_names(),
-        Err(fault) => Err(fault),
-    }
+    disk.rename(from, to)?;
+    disk.sync_names()
 }
 
 /// Puts the y-file of an s-file's name in the place of its g-file and syncs the names. It takes no memory.

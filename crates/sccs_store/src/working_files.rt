@@ -26,10 +26,9 @@ fn clear<D: Disk>(disk: &mut D, name: &Name) -> Result<(), Failed>
     ensures touches { TouchesOnly (bytes_eq name.now) (D.told disk.old) (D.told disk.new) }
     ensures causes { DiskCauses (IsErr result) (D.faults disk.old) (D.faults disk.new) }
 {
-    match disk.size(name) {
-        Ok(Some(_)) => disk.remove(name),
-        Ok(None) => Ok(()),
-        Err(fault) => Err(fault),
+    match disk.size(name)? {
+        Some(_) => disk.remove(name),
+        None => Ok(()),
     }
 }
 
@@ -43,10 +42,9 @@ fn make<D: Disk>(disk: &mut D, name: &Name) -> Result<(), DiskRefusal>
     ensures own { OnOk result (Leaves (IsOwn name.now) (D.told disk.old) (D.told disk.new)) }
     ensures causes { DiskCauses (IsErrOf result DiskRefusal.Failed) (D.faults disk.old) (D.faults disk.new) }
 {
-    match disk.create(name) {
-        Ok(Creation::Created) => Ok(()),
-        Ok(Creation::Exists) => Err(DiskRefusal::Memory),
-        Err(fault) => Err(fault),
+    match disk.create(name)? {
+        Creation::Created => Ok(()),
+        Creation::Exists => Err(DiskRefusal::Memory),
     }
 }
 
@@ -92,10 +90,8 @@ pub fn seal<D: Disk>(disk: &mut D, name: &Name) -> Result<(), Failed>
     ensures firm { OnOk result (Leaves (IsFirm name.now) (D.told disk.old) (D.told disk.new)) }
     ensures causes { DiskCauses (IsErr result) (D.faults disk.old) (D.faults disk.new) }
 {
-    match disk.protect(name) {
-        Ok(()) => disk.sync(name),
-        Err(fault) => Err(fault),
-    }
+    disk.protect(name)?;
+    disk.sync(name)
 }
 
 // puts the digits of a sum into the sum line of a file, protects the file and syncs it
@@ -107,12 +103,10 @@ fn write_sum<D: Disk>(disk: &mut D, name: &Name, sum: u16) -> Result<(), DiskRef
     ensures firm { OnOk result (Leaves (IsFirm name.now) (D.told disk.old) (D.told disk.new)) }
     ensures causes { DiskCauses (IsErrOf result DiskRefusal.Failed) (D.faults disk.old) (D.faults disk.new) }
 {
-    match disk.write_at(name, 2, &five_digits(u32::from(sum))) {
-        Ok(()) => match seal(disk, name) {
-            Ok(()) => Ok(()),
-            Err(_) => Err(DiskRefusal::Failed),
-        },
-        Err(fault) => Err(fault),
+    disk.write_at(name, 2, &five_digits(u32::from(sum)))?;
+    match seal(disk, name) {
+        Ok(()) => Ok(()),
+        Err(_) => Err(DiskRefusal::Failed),
     }
 }
 

@@ -90,10 +90,10 @@ fn across_pieces<D: Disk>(
     ensures { ReadsLine D.told D.faults disk.old disk.new reader.old reader.new number parser.old parser.new result }
 {
     let mut line = Vec::new(alloc);
-    match reader.next_line(disk, &mut line) {
-        Ok(true) => with_line(alloc, number, parser, line.as_slice()),
-        Ok(false) => Err(FileFault::BadFormat(number)),
-        Err(fault) => Err(fault),
+    if reader.next_line(disk, &mut line)? {
+        with_line(alloc, number, parser, line.as_slice())
+    } else {
+        Err(FileFault::BadFormat(number))
     }
 }
 

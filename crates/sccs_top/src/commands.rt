@@ -437,10 +437,8 @@ fn run_finishing<I: Source, O: Sink, E: Sink, D: Disk>(
         (setting I.Source O.Sink E.Sink D.Disk streams.old) (setting I.Source O.Sink E.Sink D.Disk streams.new) }
 {
     let mut freed = BTreeSet::new(alloc);
-    match finish(alloc, streams, &mut freed) {
-        Ok(_) => run_freed(alloc, command, &freed, context, streams),
-        Err(fault) => Err(fault),
-    }
+    finish(alloc, streams, &mut freed)?;
+    run_freed(alloc, command, &freed, context, streams)
 }
 
 // does a command that is no list of commands; where it is quiet the output of its operands is dropped
@@ -570,10 +568,7 @@ fn run_two<I: Source, O: Sink, E: Sink, D: Disk>(
         (setting I.Source O.Sink E.Sink D.Disk streams.old)
         (setting I.Source O.Sink E.Sink D.Disk streams.new) }
 {
-    let status = match run_meant(alloc, first, context, streams) {
-        Ok(status) => status,
-        Err(fault) => return Err(fault),
-    };
+    let status = run_meant(alloc, first, context, streams)?;
     if status != 0 {
         return Ok(status);
     }

@@ -57,10 +57,7 @@ fn judge_operands<D: Disk>(
 {
     let mut status = 0;
     for operand in operands {
-        match judge_operand(alloc, words, operand.bytes(), report, disk) {
-            Ok(bits) => status |= bits,
-            Err(fault) => return Err(fault),
-        }
+        status |= judge_operand(alloc, words, operand.bytes(), report, disk)?;
     }
     Ok(status)
 }

@@ -119,10 +119,7 @@ pub fn print_lines<O: Sink, D: Disk>(
 {
     let mut status = 0;
     for line in lines {
-        match print_line(alloc, line.bytes(), out, disk) {
-            Ok(bits) => status |= bits,
-            Err(fault) => return Err(fault),
-        }
+        status |= print_line(alloc, line.bytes(), out, disk)?;
     }
     Ok(status)
 }

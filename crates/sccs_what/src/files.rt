@@ -85,10 +85,9 @@ fn search_file<O: Sink, D: Disk>(
     let mut search = Search::Unfound;
     let mut from = 0;
     'pieces: while from < size {
-        match search_next(&mut search, first, name, from, &mut piece, held, out, disk) {
-            Ok(Some(next)) => from = next,
-            Ok(None) => return finish(search, held, out),
-            Err(fault) => return Err(fault),
+        match search_next(&mut search, first, name, from, &mut piece, held, out, disk)? {
+            Some(next) => from = next,
+            None => return finish(search, held, out),
         }
     }
     finish(search, held, out)
