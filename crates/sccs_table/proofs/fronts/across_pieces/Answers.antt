@@ -4,27 +4,27 @@ use Rattle.sccs_table.specs.FrontFile.{AnswersLine, read_as}
 use Rattle.sccs_table.proofs.FrontLaws.{answered_first, no_line, line_answered, takes_line_at}
 use Rattle.sccs_table.proofs.fronts.across_pieces.Goals as goal
 
-pub returns-in-Ok-true : goal.returns-in-Ok-true
-returns-in-Ok-true g c = record {
+pub returns-then-branch : goal.returns-then-branch
+returns-then-branch g c = record {
   frame = search rules;
   first = answered_first _ c.with_line.new.parser c.with_line.result c.with_line.ensures;
-  stays = c.in-Ok-true.ensures.stays;
+  stays = c.in_ok-next_line.ensures.stays;
   further = search rules;
   accepted = search rules;
   hears = line_answered _ c.args.reader.now c.next_line.new.self c.args.number c.args.parser.now
       c.next_line.new.line.items (read_as c.with_line.new.parser c.with_line.result)
-      (takes_line_at _ _ _ _ c.in-Ok-true.field-0 true c.in-Ok-true.field-0-test c.in-Ok-true.ensures.told)
+      (takes_line_at _ _ _ _ c.in_ok-next_line.field-0 true c.if-branch.true c.in_ok-next_line.ensures.told)
       (subst (λ line. AnswersLine (line_after c.args.number c.args.parser.now line)
       (read_as c.with_line.new.parser c.with_line.result)) c.as_slice.ensures.value c.with_line.ensures);
 }
 
-pub returns-in-Ok-false : goal.returns-in-Ok-false
-returns-in-Ok-false g c = record {
+pub returns : goal.returns
+returns g c = record {
   frame = search rules;
   first = search rules;
-  stays = c.in-Ok-false.ensures.stays;
+  stays = c.in_ok-next_line.ensures.stays;
   further = search rules;
   accepted = search rules;
   hears = no_line _ c.args.reader.now c.next_line.new.self c.args.number c.args.parser.now c.next_line.new.line.items
-      (takes_line_at _ _ _ _ c.in-Ok-false.field-0 false c.in-Ok-false.field-0-test c.in-Ok-false.ensures.told);
+      (takes_line_at _ _ _ _ c.in_ok-next_line.field-0 false c.if-branch.false c.in_ok-next_line.ensures.told);
 }
