@@ -1,4 +1,5 @@
 use Rattle.std.proofs.Common.{ap, length, refl, rules, subst, sym, ◌∙◌}
+use Rattle.std.proofs.lemmas.Result.{err_from_is_err_and}
 use Rattle.sccs_disk.specs.Told.{seen}
 use Rattle.sccs_body.specs.States.{Knows}
 use Rattle.sccs_table.specs.ReaderState.{ReaderState, bytes_in}
@@ -8,8 +9,8 @@ use Rattle.sccs_body.proofs.BodyLaws.{somewhere_taken}
 use Rattle.sccs_body.proofs.TextLaws.{somewhere_behind_front}
 use Rattle.sccs_body.proofs.bodies.check_items.Goals as goal
 
-pub returns-in-Ok-None-clause-told : goal.returns-in-Ok-None-clause-told
-returns-in-Ok-None-clause-told g c = λ live none.
+pub returns-in-None-clause-told : goal.returns-in-None-clause-told
+returns-in-None-clause-told g c = λ live none.
     let start = bytes_in (seen (g.D.Disk.told c.args.disk.now)) c.args.body.now.lines.name in
     let not = not_taken c.next_control.result (sym c.is_some.ensures ∙ c.if-is_some.false) in
     let there = same_file _ _ _ _ (ap seen c.items.invariant.same) (c.next_control.ensures.name
@@ -27,11 +28,13 @@ returns-in-Ok-None-clause-told g c = λ live none.
     let more = somewhere_kept start _ live c.args.body.now c.next_control.new.self c.read_on.new.self there
     c.in_ok-read_on.ensures.place c.in_ok-read_on.ensures.body (λ live before behind. subst
     (λ s. Knows live before s) (sym c.in_ok-read_on.ensures.state) behind) c.in_ok-read_on.ensures.stays still in
-    rest_read start _ live c.args.body.now c.read_on.new.self c.next.new.self file_is more c.in-Ok-None.field-0
-    c.in-Ok-None.field-0-is c.in-Ok-None.ensures.told
+    rest_read start _ live c.args.body.now c.read_on.new.self c.next.new.self file_is more c.in_ok-next.field-0
+    c.in-None.is c.in_ok-next.ensures.told
 
-pub returns-in-Err-clause-told : goal.returns-in-Err-clause-told
-returns-in-Err-clause-told g c = λ live none.
+pub returns-in_err-next-clause-told : goal.returns-in_err-next-clause-told
+returns-in_err-next-clause-told g c =
+    let e = err_from_is_err_and c.from_residual-in_err-next.result c.from_residual-in_err-next.ensures.1 in
+    rw (e.1, e.2) (λ live none.
     let start = bytes_in (seen (g.D.Disk.told c.args.disk.now)) c.args.body.now.lines.name in
     let not = not_taken c.next_control.result (sym c.is_some.ensures ∙ c.if-is_some.false) in
     let there = same_file _ _ _ _ (ap seen c.items.invariant.same) (c.next_control.ensures.name
@@ -49,11 +52,11 @@ returns-in-Err-clause-told g c = λ live none.
     let more = somewhere_kept start _ live c.args.body.now c.next_control.new.self c.read_on.new.self there
     c.in_ok-read_on.ensures.place c.in_ok-read_on.ensures.body (λ live before behind. subst
     (λ s. Knows live before s) (sym c.in_ok-read_on.ensures.state) behind) c.in_ok-read_on.ensures.stays still in
-    rest_fault start _ live c.args.body.now c.read_on.new.self c.next.new.self file_is more c.in-Err.fault
-    c.in-Err.ensures.told
+    rest_fault start _ live c.args.body.now c.read_on.new.self c.next.new.self file_is more c.in_err-next.field-0.0
+    c.in_err-next.ensures.told)
 
-pub returns-in-Ok-None-clause-stays : goal.returns-in-Ok-None-clause-stays
-returns-in-Ok-None-clause-stays g c =
+pub returns-in-None-clause-stays : goal.returns-in-None-clause-stays
+returns-in-None-clause-stays g c =
     let start = bytes_in (seen (g.D.Disk.told c.args.disk.now)) c.args.body.now.lines.name in
     let passed_stays = stays_on start start c.args.body.now.lines c.items.body.lines c.pass.new.self.lines refl
     c.items.invariant.stays (c.pass.ensures.stays start) in
@@ -67,10 +70,10 @@ returns-in-Ok-None-clause-stays g c =
     (c.in_ok-read_on.ensures.frame.name ∙ (c.next_control.ensures.name
     ∙ (c.pass.ensures.name ∙ c.items.invariant.name))) in
     stays_on start _ c.args.body.now.lines c.read_on.new.self.lines c.next.new.self.lines file_is more_stays
-    c.in-Ok-None.ensures.stays
+    c.in_ok-next.ensures.stays
 
-pub returns-in-Err-clause-stays : goal.returns-in-Err-clause-stays
-returns-in-Err-clause-stays g c =
+pub returns-in_err-next-clause-stays : goal.returns-in_err-next-clause-stays
+returns-in_err-next-clause-stays g c =
     let start = bytes_in (seen (g.D.Disk.told c.args.disk.now)) c.args.body.now.lines.name in
     let passed_stays = stays_on start start c.args.body.now.lines c.items.body.lines c.pass.new.self.lines refl
     c.items.invariant.stays (c.pass.ensures.stays start) in
@@ -84,10 +87,10 @@ returns-in-Err-clause-stays g c =
     (c.in_ok-read_on.ensures.frame.name ∙ (c.next_control.ensures.name
     ∙ (c.pass.ensures.name ∙ c.items.invariant.name))) in
     stays_on start _ c.args.body.now.lines c.read_on.new.self.lines c.next.new.self.lines file_is more_stays
-    c.in-Err.ensures.stays
+    c.in_err-next.ensures.stays
 
-pub items-preserved-in-Ok-Some : goal.items-preserved-in-Ok-Some
-items-preserved-in-Ok-Some g c =
+pub items-preserved-in-Some : goal.items-preserved-in-Some
+items-preserved-in-Some g c =
     let start = bytes_in (seen (g.D.Disk.told c.args.disk.now)) c.args.body.now.lines.name in
     let passed_stays = stays_on start start c.args.body.now.lines c.items.body.lines c.pass.new.self.lines refl
     c.items.invariant.stays (c.pass.ensures.stays start) in
@@ -107,7 +110,7 @@ items-preserved-in-Ok-Some g c =
       name = search rules;
       limit = search rules;
       stays = stays_on start _ c.args.body.now.lines c.read_on.new.self.lines c.next.new.self.lines file_is more_stays
-          c.in-Ok-Some.ensures.stays;
+          c.in_ok-next.ensures.stays;
       reached = λ live none.
           let passed = somewhere_behind_front start live c.args.body.now c.items.body c.pass.new.self
           c.texts-count.result.now c.texts-count.ensures.front c.texts-count.ensures.run c.texts-count.ensures.stand
@@ -121,13 +124,13 @@ items-preserved-in-Ok-Some g c =
           c.in_ok-read_on.ensures.place c.in_ok-read_on.ensures.body (λ live before behind. subst
           (λ s. Knows live before s) (sym c.in_ok-read_on.ensures.state) behind) c.in_ok-read_on.ensures.stays
           still in
-          somewhere_on start _ live c.args.body.now c.read_on.new.self c.next.new.self c.in-Ok-Some.field-0
-          c.in-Ok-Some.field-0-0 c.in-Ok-Some.field-0-is file_is c.in-Ok-Some.ensures.body
-          c.in-Ok-Some.ensures.onward more c.in-Ok-Some.ensures.goes c.in-Ok-Some.ensures.told;
+          somewhere_on start _ live c.args.body.now c.read_on.new.self c.next.new.self c.in_ok-next.field-0
+          c.in-Some.field-0 c.in-Some.is file_is c.in_ok-next.ensures.body
+          c.in_ok-next.ensures.onward more c.in_ok-next.ensures.goes c.in_ok-next.ensures.told;
     }
 
-pub items-preserved-in-Ok-Some-2 : goal.items-preserved-in-Ok-Some-2
-items-preserved-in-Ok-Some-2 g c =
+pub items-preserved-in-Some-2 : goal.items-preserved-in-Some-2
+items-preserved-in-Some-2 g c =
     let start = bytes_in (seen (g.D.Disk.told c.args.disk.now)) c.args.body.now.lines.name in
     let passed_stays = stays_on start start c.args.body.now.lines c.items.body.lines c.pass.new.self.lines refl
     c.items.invariant.stays (c.pass.ensures.stays start) in
@@ -147,7 +150,7 @@ items-preserved-in-Ok-Some-2 g c =
       name = search rules;
       limit = search rules;
       stays = stays_on start _ c.args.body.now.lines c.read_on.new.self.lines c.next.new.self.lines file_is more_stays
-          c.in-Ok-Some.ensures.stays;
+          c.in_ok-next.ensures.stays;
       reached = λ live none.
           let passed = somewhere_behind_front start live c.args.body.now c.items.body c.pass.new.self
           c.texts-count.result.now c.texts-count.ensures.front c.texts-count.ensures.run c.texts-count.ensures.stand
@@ -161,9 +164,9 @@ items-preserved-in-Ok-Some-2 g c =
           c.in_ok-read_on.ensures.place c.in_ok-read_on.ensures.body (λ live before behind. subst
           (λ s. Knows live before s) (sym c.in_ok-read_on.ensures.state) behind) c.in_ok-read_on.ensures.stays
           still in
-          somewhere_on start _ live c.args.body.now c.read_on.new.self c.next.new.self c.in-Ok-Some.field-0
-          c.in-Ok-Some.field-0-0 c.in-Ok-Some.field-0-is file_is c.in-Ok-Some.ensures.body
-          c.in-Ok-Some.ensures.onward more c.in-Ok-Some.ensures.goes c.in-Ok-Some.ensures.told;
+          somewhere_on start _ live c.args.body.now c.read_on.new.self c.next.new.self c.in_ok-next.field-0
+          c.in-Some.field-0 c.in-Some.is file_is c.in_ok-next.ensures.body
+          c.in_ok-next.ensures.onward more c.in_ok-next.ensures.goes c.in_ok-next.ensures.told;
     }
 
 pub items-preserved-then-is_some : goal.items-preserved-then-is_some

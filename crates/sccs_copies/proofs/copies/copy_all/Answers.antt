@@ -1,4 +1,5 @@
 use Rattle.std.proofs.Common.{◌∙◌, [], Ok, ap, refl, subst}
+use Rattle.std.proofs.lemmas.Result.{err_from_is_err_and}
 use Rattle.sccs_disk.specs.Told.{seen}
 use Rattle.sccs_table.specs.ReaderState.{bytes_in}
 use Rattle.sccs_copies.specs.Copies.{CopiesItem, CopiesNext}
@@ -20,17 +21,17 @@ items-init g c = record {
 pub items-preserved : goal.items-preserved
 items-preserved g c = record {
   puts = some_both c.args.out.now c.items.out c.copy_next.new.out _ _ _ _ _ _ (Ok tt) tt
-      (Ok tt) refl c.items.invariant.puts (some_as c.items.out c.copy_next.new.out _ _ _ _ c.in-Ok-true.field-0 tt
-      c.in-Ok-true.ensures.puts);
-  name = c.in-Ok-true.ensures.read ∙ c.items.invariant.name;
+      (Ok tt) refl c.items.invariant.puts (some_as c.items.out c.copy_next.new.out _ _ _ _ c.in_ok-copy_next.field-0 tt
+      c.in_ok-copy_next.ensures.puts);
+  name = c.in_ok-copy_next.ensures.read ∙ c.items.invariant.name;
   goes = λ live begun.
       let p = c.items.invariant.goes live begun in
       on_both g.F.BodyFilter.filter live [] c.args.copying.now c.items.copying c.copy_next.new.copying c.args.out.now
       c.items.out c.copy_next.new.out _ _ _ p
       (subst (λ more. CopiesItem g.F.BodyFilter.filter live p.some.after c.items.copying c.copy_next.new.copying
       c.items.out c.copy_next.new.out (g.D.Disk.told c.items.disk) (g.D.Disk.told c.copy_next.new.disk) (Ok more))
-      c.in-Ok-true.field-0-test
-      (c.in-Ok-true.ensures.goes live p.some.after p.behind p.some.put.filters.behind));
+      c.if-not-branch.false
+      (c.in_ok-copy_next.ensures.goes live p.some.after p.behind p.some.put.filters.behind));
   told = λ file items is come.
       let here = ap (bytes_in (seen (g.D.Disk.told c.items.disk))) c.items.invariant.name
       ∙ bytes_stay c.args.out.now.name _ file _ _ c.requires.apart c.items.invariant.puts.only.view is in
@@ -39,27 +40,28 @@ items-preserved g c = record {
       c.args.out.now c.items.out c.copy_next.new.out _ _ _ p
       (subst (λ more. CopiesNext g.F.BodyFilter.filter file p.rest c.items.copying c.copy_next.new.copying c.items.out
       c.copy_next.new.out (g.D.Disk.told c.items.disk) (g.D.Disk.told c.copy_next.new.disk) (Ok more))
-      c.in-Ok-true.field-0-test
-      (c.in-Ok-true.ensures.told file p.rest here p.on));
+      c.if-not-branch.false
+      (c.in_ok-copy_next.ensures.told file p.rest here p.on));
 }
 
-pub returns-in-Ok-false-clause-puts : goal.returns-in-Ok-false-clause-puts
-returns-in-Ok-false-clause-puts g c = some_both c.args.out.now c.items.out c.copy_next.new.out _ _ _ _ _ _ (Ok tt) tt
-    (Ok tt) refl c.items.invariant.puts (some_as c.items.out c.copy_next.new.out _ _ _ _ c.in-Ok-false.field-0 tt
-    c.in-Ok-false.ensures.puts)
+pub returns-then-not-branch-clause-puts : goal.returns-then-not-branch-clause-puts
+returns-then-not-branch-clause-puts g c = some_both c.args.out.now c.items.out c.copy_next.new.out _ _ _ _ _ _
+    (Ok tt) tt
+    (Ok tt) refl c.items.invariant.puts (some_as c.items.out c.copy_next.new.out _ _ _ _ c.in_ok-copy_next.field-0 tt
+    c.in_ok-copy_next.ensures.puts)
 
-pub returns-in-Ok-false-clause-goes : goal.returns-in-Ok-false-clause-goes
-returns-in-Ok-false-clause-goes g c = λ live begun.
+pub returns-then-not-branch-clause-goes : goal.returns-then-not-branch-clause-goes
+returns-then-not-branch-clause-goes g c = λ live begun.
     let p = c.items.invariant.goes live begun in
     body_both g.F.BodyFilter.filter live [] c.args.copying.now c.items.copying c.copy_next.new.copying c.args.out.now
     c.items.out c.copy_next.new.out _ _ _ p
     (subst (λ more. CopiesItem g.F.BodyFilter.filter live p.some.after c.items.copying c.copy_next.new.copying
     c.items.out c.copy_next.new.out (g.D.Disk.told c.items.disk) (g.D.Disk.told c.copy_next.new.disk) (Ok more))
-    c.in-Ok-false.field-0-test
-    (c.in-Ok-false.ensures.goes live p.some.after p.behind p.some.put.filters.behind))
+    c.if-not-branch.true
+    (c.in_ok-copy_next.ensures.goes live p.some.after p.behind p.some.put.filters.behind))
 
-pub returns-in-Ok-false-clause-told : goal.returns-in-Ok-false-clause-told
-returns-in-Ok-false-clause-told g c = λ file items is come.
+pub returns-then-not-branch-clause-told : goal.returns-then-not-branch-clause-told
+returns-then-not-branch-clause-told g c = λ file items is come.
     let here = ap (bytes_in (seen (g.D.Disk.told c.items.disk))) c.items.invariant.name
     ∙ bytes_stay c.args.out.now.name _ file _ _ c.requires.apart c.items.invariant.puts.only.view is in
     let p = c.items.invariant.told file items is come in
@@ -67,17 +69,22 @@ returns-in-Ok-false-clause-told g c = λ file items is come.
     c.args.out.now c.items.out c.copy_next.new.out _ _ _ p
     (subst (λ more. CopiesNext g.F.BodyFilter.filter file p.rest c.items.copying c.copy_next.new.copying c.items.out
     c.copy_next.new.out (g.D.Disk.told c.items.disk) (g.D.Disk.told c.copy_next.new.disk) (Ok more))
-    c.in-Ok-false.field-0-test
-    (c.in-Ok-false.ensures.told file p.rest here p.on))
+    c.if-not-branch.true
+    (c.in_ok-copy_next.ensures.told file p.rest here p.on))
 
-pub returns-in-Err-clause-puts : goal.returns-in-Err-clause-puts
-returns-in-Err-clause-puts g c = some_both c.args.out.now c.items.out c.copy_next.new.out _ _ _ _ _ _
-    (Ok tt) tt _ refl c.items.invariant.puts (some_err c.items.out c.copy_next.new.out _ _ _ _ c.in-Err.fault
-    c.in-Err.ensures.puts)
+pub returns-in_err-copy_next-clause-puts : goal.returns-in_err-copy_next-clause-puts
+returns-in_err-copy_next-clause-puts g c =
+    let p = err_from_is_err_and c.from_residual.result c.from_residual.ensures.1 in
+    rw (p.1, p.2) (some_both c.args.out.now c.items.out c.copy_next.new.out _ _ _ _ _ _
+    (Ok tt) tt _ refl c.items.invariant.puts (some_err c.items.out c.copy_next.new.out _ _ _ _
+    c.in_err-copy_next.field-0.0
+    c.in_err-copy_next.ensures.puts))
 
-pub returns-in-Err-clause-told : goal.returns-in-Err-clause-told
-returns-in-Err-clause-told g c = λ file items is come.
+pub returns-in_err-copy_next-clause-told : goal.returns-in_err-copy_next-clause-told
+returns-in_err-copy_next-clause-told g c =
+    let q = err_from_is_err_and c.from_residual.result c.from_residual.ensures.1 in
+    rw (q.1, q.2) (λ file items is come.
     let here = ap (bytes_in (seen (g.D.Disk.told c.items.disk))) c.items.invariant.name
     ∙ bytes_stay c.args.out.now.name _ file _ _ c.requires.apart c.items.invariant.puts.only.view is in
     let p = c.items.invariant.told file items is come in
-    c.in-Err.ensures.told file p.rest here p.on
+    c.in_err-copy_next.ensures.told file p.rest here p.on)

@@ -1,5 +1,6 @@
 use Rattle.std.proofs.Common.{◌∙◌, Ok, ap, arith, refl, subst}
 use Rattle.sccs_base.specs.Constants.{file_limit}
+use Rattle.std.proofs.lemmas.Result.{err_from_is_err_and}
 use Rattle.sccs_disk.specs.Told.{seen}
 use Rattle.sccs_table.specs.ReaderState.{bytes_in}
 use Rattle.sccs_versions.specs.Place.{name_of}
@@ -22,12 +23,12 @@ lines-init g c = record {
 
 pub lines-preserved : goal.lines-preserved
 lines-preserved g c = record {
-  same = c.in-Ok-true.ensures.frame.same ∙ c.lines.invariant.same;
-  later = omega (arith, c.lines.invariant.later, c.in-Ok-true.ensures.frame.later);
-  name = c.in-Ok-true.ensures.name ∙ c.lines.invariant.name;
-  read = c.in-Ok-true.ensures.read ∙ c.lines.invariant.read;
-  plan = c.in-Ok-true.ensures.plan ∙ c.lines.invariant.plan;
-  few = c.in-Ok-true.ensures.few;
+  same = c.in_ok-see_next.ensures.frame.same ∙ c.lines.invariant.same;
+  later = omega (arith, c.lines.invariant.later, c.in_ok-see_next.ensures.frame.later);
+  name = c.in_ok-see_next.ensures.name ∙ c.lines.invariant.name;
+  read = c.in_ok-see_next.ensures.read ∙ c.lines.invariant.read;
+  plan = c.in_ok-see_next.ensures.plan ∙ c.lines.invariant.plan;
+  few = c.in_ok-see_next.ensures.few;
   told = λ file lines is coming few.
       let p = c.lines.invariant.told file lines is coming few in
       let here = ap (λ t. bytes_in (seen t) (name_of c.lines.version)) c.lines.invariant.same
@@ -38,15 +39,15 @@ lines-preserved g c = record {
       c.args.check.now c.lines.check c.see_next.new.check c.lines.invariant.plan p
       (subst (λ more. ExaminesNext file c.see_next.new.version (bytes_in (seen (g.D.Disk.told c.args.disk.now))
       c.args.check.now.lines.name) p.rest c.lines.at c.see_next.new.at c.lines.check c.see_next.new.check (Ok more))
-      c.in-Ok-true.field-0-test
+      c.if-not-branch.false
       (subst (λ t. ExaminesNext file c.see_next.new.version t p.rest c.lines.at c.see_next.new.at c.lines.check
-      c.see_next.new.check (Ok c.in-Ok-true.field-0)) beside
-      (c.in-Ok-true.ensures.told file p.rest here p.on (examines_few file c.lines.version _ lines c.args.at.now
+      c.see_next.new.check (Ok c.in_ok-see_next.field-0)) beside
+      (c.in_ok-see_next.ensures.told file p.rest here p.on (examines_few file c.lines.version _ lines c.args.at.now
       c.lines.at c.args.check.now c.lines.check file_limit p few))));
 }
 
-pub returns-in-Ok-false-clause-told : goal.returns-in-Ok-false-clause-told
-returns-in-Ok-false-clause-told g c = λ file lines is coming few.
+pub returns-then-not-branch-clause-told : goal.returns-then-not-branch-clause-told
+returns-then-not-branch-clause-told g c = λ file lines is coming few.
     let p = c.lines.invariant.told file lines is coming few in
     let here = ap (λ t. bytes_in (seen t) (name_of c.lines.version)) c.lines.invariant.same
     ∙ (ap (bytes_in (seen (g.D.Disk.told c.args.disk.now))) c.lines.invariant.read ∙ is) in
@@ -56,16 +57,19 @@ returns-in-Ok-false-clause-told g c = λ file lines is coming few.
     c.see_next.new.check c.lines.invariant.plan p
     (subst (λ more. ExaminesNext file c.see_next.new.version (bytes_in (seen (g.D.Disk.told c.args.disk.now))
     c.args.check.now.lines.name) p.rest c.lines.at c.see_next.new.at c.lines.check c.see_next.new.check (Ok more))
-    c.in-Ok-false.field-0-test
+    c.if-not-branch.true
     (subst (λ t. ExaminesNext file c.see_next.new.version t p.rest c.lines.at c.see_next.new.at c.lines.check
-    c.see_next.new.check (Ok c.in-Ok-false.field-0)) beside
-    (c.in-Ok-false.ensures.told file p.rest here p.on (examines_few file c.lines.version _ lines c.args.at.now
+    c.see_next.new.check (Ok c.in_ok-see_next.field-0)) beside
+    (c.in_ok-see_next.ensures.told file p.rest here p.on (examines_few file c.lines.version _ lines c.args.at.now
     c.lines.at c.args.check.now c.lines.check file_limit p few))))
 
-pub returns-in-Err-clause-told : goal.returns-in-Err-clause-told
-returns-in-Err-clause-told g c = λ file lines is coming few.
+pub returns-in_err-see_next-clause-told : goal.returns-in_err-see_next-clause-told
+returns-in_err-see_next-clause-told g c =
+    let q = err_from_is_err_and c.from_residual.result c.from_residual.ensures.1 in
+    rw (q.1, q.2) (λ file lines is coming few.
     let p = c.lines.invariant.told file lines is coming few in
     let here = ap (λ t. bytes_in (seen t) (name_of c.lines.version)) c.lines.invariant.same
     ∙ (ap (bytes_in (seen (g.D.Disk.told c.args.disk.now))) c.lines.invariant.read ∙ is) in
-    c.in-Err.ensures.told file p.rest here p.on (examines_few file c.lines.version _ lines c.args.at.now c.lines.at
-    c.args.check.now c.lines.check file_limit p few)
+    c.in_err-see_next.ensures.told file p.rest here p.on (examines_few file c.lines.version _ lines c.args.at.now
+    c.lines.at
+    c.args.check.now c.lines.check file_limit p few))
