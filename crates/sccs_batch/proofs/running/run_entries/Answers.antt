@@ -1,5 +1,6 @@
 use Rattle.std.proofs.Common.{ℕ, ◌+◌, ◌-◌, ap, drop, take, length, Option, Result, Ok, arith, subst, ◌∙◌}
 use Rattle.std.proofs.Math.ListN.{drop_of_length-le}
+use Rattle.std.proofs.lemmas.Result.{err_from_is_err_and}
 use Rattle.std.proofs.lemmas.List.{take_rest}
 use Rattle.sccs_step_lists.specs.QuietSettings.{quiet}
 use Rattle.sccs_steps.specs.declared.faults.Fault.{Fault}
@@ -16,7 +17,7 @@ entries-preserved g c = record {
   leads =
       reaches_on (g.C.Commands.command c.args.commands.now) (g.C.Commands.fits c.args.commands.now)
       (g.C.Commands.whole c.args.commands.now) (g.C.Commands.begun c.args.commands.now) (batch_of c.args.lines.now)
-      c.args.lines.now c.entries.at c.in-Ok-Some.own (take (length c.args.lines.now - (c.entries.at + 1))
+      c.args.lines.now c.entries.at c.in-Some.own (take (length c.args.lines.now - (c.entries.at + 1))
       (drop (c.entries.at + 1) c.args.lines.now)) (quiet g.O.Sink g.E.Sink g.D.Disk c.args.out.now c.args.err.now
       c.args.disk.now) (quiet g.O.Sink g.E.Sink g.D.Disk c.run_next.new.out c.run_next.new.err c.run_next.new.disk)
       (take_rest c.args.lines.now (c.entries.at + 1))
@@ -26,8 +27,8 @@ entries-preserved g c = record {
       (take (length c.args.lines.now - (c.entries.at + 1)) (drop (c.entries.at + 1) c.args.lines.now)) r
       (quiet g.O.Sink g.E.Sink g.D.Disk c.args.out.now c.args.err.now c.args.disk.now)
       (quiet g.O.Sink g.E.Sink g.D.Disk c.run_next.new.out c.run_next.new.err c.run_next.new.disk))
-      (ap (λ (o : Option ℕ). Ok o) c.in-Ok-Some.field-0-is)
-      (c.in-Ok-Some.ensures.run (batch_of c.args.lines.now) (quiet g.O.Sink g.E.Sink g.D.Disk c.args.out.now
+      (ap (λ (o : Option ℕ). Ok o) c.in-Some.is)
+      (c.in_ok-own.ensures.run (batch_of c.args.lines.now) (quiet g.O.Sink g.E.Sink g.D.Disk c.args.out.now
       c.args.err.now c.args.disk.now) (reaches_line (g.C.Commands.command c.args.commands.now)
       (g.C.Commands.fits c.args.commands.now) (g.C.Commands.whole c.args.commands.now)
       (g.C.Commands.begun c.args.commands.now) (batch_of c.args.lines.now) c.args.lines.now c.entries.at
@@ -37,21 +38,21 @@ entries-preserved g c = record {
       (c.bytes-line.ensures.value ∙ c.index-lines-at.is) c.entries-test.true (take_rest c.args.lines.now
       (c.entries.at + 1)) c.entries.invariant.leads)));
   within = within_on c.args.lines.now (take (length c.args.lines.now - (c.entries.at + 1))
-      (drop (c.entries.at + 1) c.args.lines.now)) c.entries.at c.in-Ok-Some.own c.in-Ok-Some.field-0
-      c.in-Ok-Some.field-0-is c.in-Ok-Some.ensures.within (take_rest c.args.lines.now (c.entries.at + 1))
+      (drop (c.entries.at + 1) c.args.lines.now)) c.entries.at c.in-Some.own c.in_ok-own.field-0
+      c.in-Some.is c.in_ok-own.ensures.within (take_rest c.args.lines.now (c.entries.at + 1))
       c.entries-test.true;
 }
 
-pub returns-in-Ok-None : goal.returns-in-Ok-None
-returns-in-Ok-None g c =
+pub returns-in-None : goal.returns-in-None
+returns-in-None g c =
     subst (λ (r : Result (Option ℕ) Fault). NextEnds (g.C.Commands.command c.args.commands.now)
     (g.C.Commands.fits c.args.commands.now) (g.C.Commands.whole c.args.commands.now)
     (g.C.Commands.begun c.args.commands.now) (batch_of c.args.lines.now) (c.entries.at + 1)
     (take (length c.args.lines.now - (c.entries.at + 1)) (drop (c.entries.at + 1) c.args.lines.now)) r
     (quiet g.O.Sink g.E.Sink g.D.Disk c.args.out.now c.args.err.now c.args.disk.now)
     (quiet g.O.Sink g.E.Sink g.D.Disk c.run_next.new.out c.run_next.new.err c.run_next.new.disk))
-    (ap (λ (o : Option ℕ). Ok o) c.in-Ok-None.field-0-is)
-    (c.in-Ok-None.ensures.run (batch_of c.args.lines.now) (quiet g.O.Sink g.E.Sink g.D.Disk c.args.out.now
+    (ap (λ (o : Option ℕ). Ok o) c.in-None.is)
+    (c.in_ok-own.ensures.run (batch_of c.args.lines.now) (quiet g.O.Sink g.E.Sink g.D.Disk c.args.out.now
     c.args.err.now c.args.disk.now) (reaches_line (g.C.Commands.command c.args.commands.now)
     (g.C.Commands.fits c.args.commands.now) (g.C.Commands.whole c.args.commands.now)
     (g.C.Commands.begun c.args.commands.now) (batch_of c.args.lines.now) c.args.lines.now c.entries.at
@@ -61,8 +62,10 @@ returns-in-Ok-None g c =
     (c.bytes-line.ensures.value ∙ c.index-lines-at.is) c.entries-test.true (take_rest c.args.lines.now
     (c.entries.at + 1)) c.entries.invariant.leads))
 
-pub returns-in-Err : goal.returns-in-Err
-returns-in-Err g c = c.in-Err.ensures.run (batch_of c.args.lines.now) (quiet g.O.Sink g.E.Sink g.D.Disk c.args.out.now
+pub returns-in_err-own : goal.returns-in_err-own
+returns-in_err-own g c =
+    let e = err_from_is_err_and c.from_residual.result c.from_residual.ensures.1 in
+    rw (e.1, e.2) (c.in_err-own.ensures.run (batch_of c.args.lines.now) (quiet g.O.Sink g.E.Sink g.D.Disk c.args.out.now
     c.args.err.now c.args.disk.now) (reaches_line (g.C.Commands.command c.args.commands.now)
     (g.C.Commands.fits c.args.commands.now) (g.C.Commands.whole c.args.commands.now)
     (g.C.Commands.begun c.args.commands.now) (batch_of c.args.lines.now) c.args.lines.now c.entries.at
@@ -70,7 +73,7 @@ returns-in-Err g c = c.in-Err.ensures.run (batch_of c.args.lines.now) (quiet g.O
     (drop (c.entries.at + 1) c.args.lines.now)) (quiet g.O.Sink g.E.Sink g.D.Disk c.args.out.now c.args.err.now
     c.args.disk.now) (quiet g.O.Sink g.E.Sink g.D.Disk c.entries.out c.entries.err c.entries.disk)
     (c.bytes-line.ensures.value ∙ c.index-lines-at.is) c.entries-test.true (take_rest c.args.lines.now
-    (c.entries.at + 1)) c.entries.invariant.leads)
+    (c.entries.at + 1)) c.entries.invariant.leads))
 
 pub returns : goal.returns
 returns g c =
