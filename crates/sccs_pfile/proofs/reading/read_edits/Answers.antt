@@ -13,13 +13,13 @@ lines-init c = record {
 
 pub lines-preserved : goal.lines-preserved
 lines-preserved c = record {
-  same = ap (λ l. behind_edits l (entries_at (c.lines.number + 1) c.in-Ok.next.1.now)) c.in-Ok-push.ensures.ok
-      ∙ (sym (one_before c.lines.edits c.in-Ok.next.0 c.lines.number
-      (entries_at (c.lines.number + 1) c.in-Ok.next.1.now))
-      ∙ (ap (behind_edits c.lines.edits) c.in-Ok.ensures.value ∙ c.lines.invariant.same));
-  short = omega (arith, c.lines.invariant.short, c.in-Ok.ensures.shorter);
-  valid = valid_push c.lines.edits c.push.new.self c.in-Ok.next.0 c.in-Ok-push.ensures.ok c.lines.invariant.valid
-      c.in-Ok.ensures.valid;
+  same = ap (λ l. behind_edits l (entries_at (c.lines.number + 1) c.in_ok-edit.more.now)) c.in-Ok.ensures.ok
+      ∙ (sym (one_before c.lines.edits c.in_ok-edit.edit c.lines.number
+      (entries_at (c.lines.number + 1) c.in_ok-edit.more.now))
+      ∙ (ap (behind_edits c.lines.edits) c.in_ok-edit.ensures.value ∙ c.lines.invariant.same));
+  short = omega (arith, c.lines.invariant.short, c.in_ok-edit.ensures.shorter);
+  valid = valid_push c.lines.edits c.push.new.self c.in_ok-edit.edit c.in-Ok.ensures.ok c.lines.invariant.valid
+      c.in_ok-edit.ensures.valid;
 }
 
 pub returns-clause-value : goal.returns-clause-value

@@ -1,4 +1,5 @@
 use Rattle.std.proofs.Common.{Ok, ◌||◌, ap, arith, subst, ◌∙◌}
+use Rattle.std.proofs.lemmas.Result.{err_from_is_err_and}
 use Rattle.sccs_disk.specs.Told.{seen}
 use Rattle.sccs_table.specs.ReaderState.{bytes_in}
 use Rattle.sccs_versions.specs.Place.{name_of}
@@ -9,9 +10,9 @@ use Rattle.sccs_printing.proofs.keyword_search.search_all.Goals as goal
 
 pub lines-preserved : goal.lines-preserved
 lines-preserved g c = record {
-  same = c.in-Ok-Some.ensures.same ∙ c.lines.invariant.same;
-  later = let more = (c.in-Ok-Some.ensures.causes 0).disk_later in omega (arith, c.lines.invariant.later, more);
-  name = c.in-Ok-Some.ensures.name ∙ (c.search_run-run.ensures.name ∙ c.lines.invariant.name);
+  same = c.in_ok-some.ensures.same ∙ c.lines.invariant.same;
+  later = let more = (c.in_ok-some.ensures.causes 0).disk_later in omega (arith, c.lines.invariant.later, more);
+  name = c.in_ok-some.ensures.name ∙ (c.search_run-run.ensures.name ∙ c.lines.invariant.name);
   told = λ file lines told p.
       let s = c.lines.invariant.told file lines told p in
       let run = searched_both file c.lines.version c.search_run-run.new.version lines c.lines.found
@@ -20,18 +21,18 @@ lines-preserved g c = record {
       ∙ (ap (bytes_in (seen (g.D.Disk.told c.args.disk.now))) (c.search_run-run.ensures.name
       ∙ c.lines.invariant.name) ∙ told) in
       searched_both file c.search_run-run.new.version c.search_next.new.version lines
-      (c.lines.found || c.search_run-run.result) c.in-Ok-Some.some run
-      (subst (λ o. SearchesNextLine file c.search_next.new.version run.rest (Ok o)) c.in-Ok-Some.field-0-is
-      (c.in-Ok-Some.ensures.told file run.rest here run.on));
+      (c.lines.found || c.search_run-run.result) c.in-Some.some run
+      (subst (λ o. SearchesNextLine file c.search_next.new.version run.rest (Ok o)) c.in-Some.is
+      (c.in_ok-some.ensures.told file run.rest here run.on));
 }
 
-pub returns-in-Ok-None-clause-causes : goal.returns-in-Ok-None-clause-causes
-returns-in-Ok-None-clause-causes g c = λ out. let more = (c.in-Ok-None.ensures.causes 0).disk_later in
+pub returns-in-None-clause-causes : goal.returns-in-None-clause-causes
+returns-in-None-clause-causes g c = λ out. let more = (c.in_ok-some.ensures.causes 0).disk_later in
     quiet_causes (c.lines.found || c.search_run-run.result) out (g.D.Disk.faults c.args.disk.now)
     (g.D.Disk.faults c.search_next.new.disk) (omega (arith, c.lines.invariant.later, more))
 
-pub returns-in-Ok-None-clause-told : goal.returns-in-Ok-None-clause-told
-returns-in-Ok-None-clause-told g c = λ file lines told p.
+pub returns-in-None-clause-told : goal.returns-in-None-clause-told
+returns-in-None-clause-told g c = λ file lines told p.
     let s = c.lines.invariant.told file lines told p in
     let run = searched_both file c.lines.version c.search_run-run.new.version lines c.lines.found
     c.search_run-run.result s (c.search_run-run.ensures.told file s.rest s.on) in
@@ -39,19 +40,23 @@ returns-in-Ok-None-clause-told g c = λ file lines told p.
     ∙ (ap (bytes_in (seen (g.D.Disk.told c.args.disk.now))) (c.search_run-run.ensures.name ∙ c.lines.invariant.name)
     ∙ told) in
     all_searched file c.search_run-run.new.version lines (c.lines.found || c.search_run-run.result) run
-    (subst (λ o. SearchesNextLine file c.search_next.new.version run.rest (Ok o)) c.in-Ok-None.field-0-is
-    (c.in-Ok-None.ensures.told file run.rest here run.on))
+    (subst (λ o. SearchesNextLine file c.search_next.new.version run.rest (Ok o)) c.in-None.is
+    (c.in_ok-some.ensures.told file run.rest here run.on))
 
-pub returns-in-Err-clause-causes : goal.returns-in-Err-clause-causes
-returns-in-Err-clause-causes g c = λ out. fault_causes c.in-Err.fault out _ _ _ c.lines.invariant.later
-    (c.in-Err.ensures.causes out)
+pub returns-in_err-some-clause-causes : goal.returns-in_err-some-clause-causes
+returns-in_err-some-clause-causes g c =
+    let e = err_from_is_err_and c.from_residual.result c.from_residual.ensures.1 in
+    rw (e.1, e.2) (λ out. fault_causes c.in_err-some.field-0.0 out _ _ _ c.lines.invariant.later
+    (c.in_err-some.ensures.causes out))
 
-pub returns-in-Err-clause-told : goal.returns-in-Err-clause-told
-returns-in-Err-clause-told g c = λ file lines told p.
+pub returns-in_err-some-clause-told : goal.returns-in_err-some-clause-told
+returns-in_err-some-clause-told g c =
+    let e = err_from_is_err_and c.from_residual.result c.from_residual.ensures.1 in
+    rw (e.1, e.2) (λ file lines told p.
     let s = c.lines.invariant.told file lines told p in
     let run = searched_both file c.lines.version c.search_run-run.new.version lines c.lines.found
     c.search_run-run.result s (c.search_run-run.ensures.told file s.rest s.on) in
     let here = ap (λ t. bytes_in (seen t) (name_of c.search_run-run.new.version)) c.lines.invariant.same
     ∙ (ap (bytes_in (seen (g.D.Disk.told c.args.disk.now))) (c.search_run-run.ensures.name ∙ c.lines.invariant.name)
     ∙ told) in
-    c.in-Err.ensures.told file run.rest here run.on
+    c.in_err-some.ensures.told file run.rest here run.on)
