@@ -3,7 +3,7 @@ use Rattle.std.proofs.Common.{Ok, Err, arith}
 use Rattle.std.proofs.Math.ListN.{drop_of_length-le}
 use Rattle.std.proofs.lemmas.Result.{err_from_is_err_and}
 use Rattle.std.proofs.lemmas.List.{take_rest}
-use Rattle.sccs_group_command.specs.GroupText.{AddsEntry, ReadsGroup, entry_at, group_from, group_of, some_of}
+use Rattle.sccs_group_command.specs.GroupText.{AddsEntry, ReadsGroup, entry_at, group_from, group_of}
 use Rattle.sccs_group_command.specs.declared.entries.GroupEntry.{GroupEntry}
 use Rattle.sccs_group_command.specs.declared.entries.GroupFault.{GroupFault}
 use Rattle.sccs_group_command.proofs.GroupTexts.{entry_added, entry_none, within_on}

@@ -1,4 +1,5 @@
 use Rattle.std.proofs.Common.{ℕ, ◌+◌, ◌-◌, ◌≤◌, Result, Ok, arith, subst, sym}
+use Rattle.std.proofs.lemmas.Result.{err_from_is_err_and}
 use Rattle.sccs_step_lists.specs.QuietSettings.{quiet}
 use Rattle.sccs_steps.specs.declared.faults.Fault.{Fault}
 use Rattle.sccs_soak.specs.Commands.{rounds_from}
@@ -8,9 +9,10 @@ use Rattle.sccs_soak.proofs.SoakStepLists.{leads_cut, leads_end, leads_on, leads
 use Rattle.sccs_soak.proofs.SoakStepLists.{round_first}
 use Rattle.sccs_soak.proofs.running.run_rounds.Goals as goal
 
-pub returns-in-Err : goal.returns-in-Err
-returns-in-Err g c =
-    leads_cut (g.C.Commands.command c.args.commands.now) (g.C.Commands.fits c.args.commands.now)
+pub returns-in_err-status : goal.returns-in_err-status
+returns-in_err-status g c =
+    let e = err_from_is_err_and c.from_residual.result c.from_residual.ensures.1 in
+    rw (e.1, e.2) (leads_cut (g.C.Commands.command c.args.commands.now) (g.C.Commands.fits c.args.commands.now)
     (g.C.Commands.whole c.args.commands.now) (g.C.Commands.begun c.args.commands.now)
     (g.C.Commands.takes c.args.commands.now) c.args.number (rounds_from c.args.number 1 c.args.number 0)
     (quiet g.O.Sink g.E.Sink g.D.Disk c.args.out.now c.args.err.now c.args.disk.now) c.rounds.round c.of-turn.result
@@ -22,13 +24,13 @@ returns-in-Err g c =
     c.rounds.draws.state c.rounds.lines c.draw-choice.new.self.state c.draw-place.new.self.state
     c.draw-choice.result c.draw-place.result c.of-turn.result (omega (arith, c.rounds-test.true))
     c.draw-choice.ensures.state c.draw-place.ensures.state c.draw-choice.ensures.value c.draw-place.ensures.value
-    c.of-turn.ensures) c.rounds.invariant.leads c.in-Err.fault
+    c.of-turn.ensures) c.rounds.invariant.leads c.in_err-status.field-0.0
     (subst (λ (r : Result ℕ Fault). RunsRound (g.C.Commands.command c.args.commands.now)
     (g.C.Commands.fits c.args.commands.now) (g.C.Commands.whole c.args.commands.now)
     (g.C.Commands.begun c.args.commands.now) c.rounds.round c.of-turn.result r
     (quiet g.O.Sink g.E.Sink g.D.Disk c.rounds.out c.rounds.err c.rounds.disk)
-    (quiet g.O.Sink g.E.Sink g.D.Disk c.run_round.new.out c.run_round.new.err c.run_round.new.disk)) c.in-Err.is
-    c.run_round.ensures)
+    (quiet g.O.Sink g.E.Sink g.D.Disk c.run_round.new.out c.run_round.new.err c.run_round.new.disk)) c.in_err-status.was
+    c.run_round.ensures))
 
 pub returns-then-status-ne0 : goal.returns-then-status-ne0
 returns-then-status-ne0 g c =
@@ -44,12 +46,12 @@ returns-then-status-ne0 g c =
     c.rounds.draws.state c.rounds.lines c.draw-choice.new.self.state c.draw-place.new.self.state
     c.draw-choice.result c.draw-place.result c.of-turn.result (omega (arith, c.rounds-test.true))
     c.draw-choice.ensures.state c.draw-place.ensures.state c.draw-choice.ensures.value c.draw-place.ensures.value
-    c.of-turn.ensures) c.rounds.invariant.leads c.in-Ok.status c.if-status-ne0.true
+    c.of-turn.ensures) c.rounds.invariant.leads c.in_ok-status.status c.if-status-ne0.true
     (subst (λ (r : Result ℕ Fault). RunsRound (g.C.Commands.command c.args.commands.now)
     (g.C.Commands.fits c.args.commands.now) (g.C.Commands.whole c.args.commands.now)
     (g.C.Commands.begun c.args.commands.now) c.rounds.round c.of-turn.result r
     (quiet g.O.Sink g.E.Sink g.D.Disk c.rounds.out c.rounds.err c.rounds.disk)
-    (quiet g.O.Sink g.E.Sink g.D.Disk c.run_round.new.out c.run_round.new.err c.run_round.new.disk)) c.in-Ok.is
+    (quiet g.O.Sink g.E.Sink g.D.Disk c.run_round.new.out c.run_round.new.err c.run_round.new.disk)) c.in_ok-status.was
     c.run_round.ensures)
 
 pub rounds-preserved : goal.rounds-preserved
@@ -85,7 +87,8 @@ rounds-preserved g c = record {
       (g.C.Commands.fits c.args.commands.now) (g.C.Commands.whole c.args.commands.now)
       (g.C.Commands.begun c.args.commands.now) c.rounds.round c.of-turn.result r
       (quiet g.O.Sink g.E.Sink g.D.Disk c.rounds.out c.rounds.err c.rounds.disk)
-      (quiet g.O.Sink g.E.Sink g.D.Disk c.run_round.new.out c.run_round.new.err c.run_round.new.disk)) c.in-Ok.is
+      (quiet g.O.Sink g.E.Sink g.D.Disk c.run_round.new.out c.run_round.new.err c.run_round.new.disk))
+      c.in_ok-status.was
       c.run_round.ensures)));
   least = omega arith;
   most = omega (arith, c.rounds-test.true);
