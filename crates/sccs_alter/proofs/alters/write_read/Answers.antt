@@ -1,3 +1,4 @@
+use Rattle.std.proofs.lemmas.Result.{err_from_is_err_and}
 use Rattle.std.proofs.Common.{ℕ, List, Ok, ap, refl, subst}
 use Rattle.sccs_base.specs.Name.{x_file}
 use Rattle.sccs_disk.specs.Told.{seen}
@@ -13,22 +14,24 @@ returns-in_default-clause-frame g c = frame_none (x_file c.args.name.now) _ _ _ 
 
 pub write_header-requires-clause-spelled : goal.write_header-requires-clause-spelled
 write_header-requires-clause-spelled g c =
-    altered_spelled c.args.words.now c.args.x.front.header c.bytes.result.now c.in-Ok-altered_header.header
-    c.requires.spelled c.in-Ok-altered_header.ensures.value
+    altered_spelled c.args.words.now c.args.x.front.header c.bytes.result.now c.in_ok-header.header
+    c.requires.spelled c.in_ok-header.ensures.value
 
-pub returns-in-Ok-altered_header-clause-told : goal.returns-in-Ok-altered_header-clause-told
-returns-in-Ok-altered_header-clause-told g c = λ file items is front are.
+pub returns-clause-told : goal.returns-clause-told
+returns-clause-told g c = λ file items is front are.
     header_altered c.write_header.result (altered_header c.args.words.now c.args.x.front.header c.args.x.text)
-    c.in-Ok-altered_header.header items c.args.name.now (seen (g.D.Disk.told c.args.disk.now))
+    c.in_ok-header.header items c.args.name.now (seen (g.D.Disk.told c.args.disk.now))
     (seen (g.D.Disk.told c.write_header.new.disk))
     (subst (λ (text : List ℕ). Answers (altered_header c.args.words.now c.args.x.front.header text)
-    (Ok c.in-Ok-altered_header.header)) c.bytes.ensures c.in-Ok-altered_header.ensures.value)
+    (Ok c.in_ok-header.header)) c.bytes.ensures c.in_ok-header.ensures.value)
     (c.write_header.ensures.told file items is (header_comes file c.args.x.front items c.in-Ok.copying front are
     c.in-Ok.ensures.told))
 
-pub returns-clause-frame : goal.returns-clause-frame
-returns-clause-frame g c = frame_none (x_file c.args.name.now) _ _ _ (λ is. c.in-Err.ensures.broke (ap no_header is))
+pub returns-in_err-header-clause-frame : goal.returns-in_err-header-clause-frame
+returns-in_err-header-clause-frame g c =
+    let p = err_from_is_err_and c.from_residual.result c.from_residual.ensures.1 in
+    rw (p.1, p.2) (frame_none (x_file c.args.name.now) _ _ _ (λ is. c.in_err-header.ensures.broke (ap no_header is)))
 
-pub returns-in-Ok-altered_header-clause-checks : goal.returns-in-Ok-altered_header-clause-checks
-returns-in-Ok-altered_header-clause-checks g c = file_refused c.write_header.result alter_checks
+pub returns-clause-checks : goal.returns-clause-checks
+returns-clause-checks g c = file_refused c.write_header.result alter_checks
     (refl, (refl, (refl, (refl, (refl, (refl, (refl, tt))))))) c.write_header.ensures.checks

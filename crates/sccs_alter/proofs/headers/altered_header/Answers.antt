@@ -1,15 +1,20 @@
+use Rattle.std.proofs.lemmas.Result.{err_from_is_err_and}
 use Rattle.sccs_alter.proofs.HeaderLaws.{all_altered, description_ends, flags_end}
 use Rattle.sccs_alter.proofs.headers.altered_header.Goals as goal
 
-pub returns-in-Err-clause-value : goal.returns-in-Err-clause-value
-returns-in-Err-clause-value c = description_ends c.args.words.now c.args.header c.args.text.now c.in-Err.fault
-    c.in-Err.ensures.value
+pub returns-in_err-description-clause-value : goal.returns-in_err-description-clause-value
+returns-in_err-description-clause-value c =
+    let p = err_from_is_err_and c.from_residual.result c.from_residual.ensures.1 in
+    rw (p.1, p.2) (description_ends c.args.words.now c.args.header c.args.text.now c.in_err-description.field-0.0
+    c.in_err-description.ensures.value)
 
-pub returns-in-Err-flags_of-clause-value : goal.returns-in-Err-flags_of-clause-value
-returns-in-Err-flags_of-clause-value c = flags_end c.args.words.now c.args.header c.args.text.now c.in-Ok.description
-    c.in-Err-flags_of.fault c.in-Ok.ensures.value c.in-Err-flags_of.ensures.value
+pub returns-in_err-flags-clause-value : goal.returns-in_err-flags-clause-value
+returns-in_err-flags-clause-value c =
+    let p = err_from_is_err_and c.from_residual-in_err-flags.result c.from_residual-in_err-flags.ensures.1 in
+    rw (p.1, p.2) (flags_end c.args.words.now c.args.header c.args.text.now c.in_ok-description.description
+    c.in_err-flags.field-0.0 c.in_ok-description.ensures.value c.in_err-flags.ensures.value)
 
 pub returns-clause-value : goal.returns-clause-value
 returns-clause-value c =
-    all_altered c.args.words.now c.args.header c.args.text.now c.in-Ok.description c.in-Ok-change_users.users
-    c.in-Ok-flags_of.flags c.in-Ok.ensures.value c.in-Ok-flags_of.ensures.value c.in-Ok-change_users.ensures
+    all_altered c.args.words.now c.args.header c.args.text.now c.in_ok-description.description c.in-Ok.users
+    c.in_ok-flags.flags c.in_ok-description.ensures.value c.in_ok-flags.ensures.value c.in-Ok.ensures

@@ -1,3 +1,4 @@
+use Rattle.std.proofs.lemmas.Result.{err_from_is_err_and}
 use Rattle.std.proofs.Common.{rules}
 use Rattle.sccs_name_files.specs.StepFiles.{is_working}
 use Rattle.sccs_store.proofs.Working.{ok_map, same_touches, touches_from}
@@ -8,8 +9,8 @@ use Rattle.sccs_crash_points.proofs.Unlocked.{others_same}
 use Rattle.sccs_recovery.proofs.OtherNames.{others_since}
 use Rattle.sccs_recovery.proofs.recoveries.unlock.Goals as goal
 
-pub returns-in-Ok-clause-ends : goal.returns-in-Ok-clause-ends
-returns-in-Ok-clause-ends g c = record {
+pub returns-clause-ends : goal.returns-clause-ends
+returns-clause-ends g c = record {
   view = search rules;
   refused = search rules;
   memory = search rules;
@@ -18,9 +19,9 @@ returns-in-Ok-clause-ends g c = record {
       c.read_left.ensures.same (c.finish.ensures.touches fault);
   others = others_since c.args.name.now _ (g.D.Disk.told c.read_left.new.disk) _ c.read_left.ensures.same
       c.finish.ensures.others;
-  partly = λ fault. finished_partly c.args.name.now c.in-Ok.left (g.D.Disk.told c.args.disk.now)
+  partly = λ fault. finished_partly c.args.name.now c.in_ok-left.left (g.D.Disk.told c.args.disk.now)
       (g.D.Disk.told c.read_left.new.disk) (g.D.Disk.told c.finish.new.disk) c.read_left.ensures.same c.requires.z
-      c.in-Ok.ensures.told (c.finish.ensures.partly fault);
+      c.in_ok-left.ensures.told (c.finish.ensures.partly fault);
   story = search rules;
   calm = ok_map c.finish.result (calm_from _ (g.D.Disk.told c.read_left.new.disk) _ c.read_left.ensures.same)
       c.finish.ensures.calm;
@@ -30,21 +31,23 @@ returns-in-Ok-clause-ends g c = record {
   within = search rules;
 }
 
-pub returns-in-Err-clause-ends : goal.returns-in-Err-clause-ends
-returns-in-Err-clause-ends g c = record {
-  view = search rules;
-  refused = search rules;
-  memory = search rules;
-  cleared = λ fault. same_cleared c.args.name.now (g.D.Disk.told c.args.disk.now) (g.D.Disk.told c.read_left.new.disk)
-      c.read_left.ensures.same;
-  touches = λ fault. same_touches (is_working c.args.name.now) _ _ c.read_left.ensures.same;
-  others = others_same (is_own c.args.name.now) _ _ c.read_left.ensures.same;
-  partly = λ fault. same_partly c.args.name.now _ (g.D.Disk.told c.args.disk.now) (g.D.Disk.told c.read_left.new.disk)
-      c.read_left.ensures.same;
-  story = same_story _ _ c.read_left.ensures.same;
-  calm = search rules;
-  firm = same_firm _ _ c.read_left.ensures.same;
-  later = search rules;
-  cause = search rules;
-  within = search rules;
-}
+pub returns-in_err-left-clause-ends : goal.returns-in_err-left-clause-ends
+returns-in_err-left-clause-ends g c =
+    let p = err_from_is_err_and c.from_residual.result c.from_residual.ensures.1 in
+    rw (p.1, p.2) (record {
+      view = search rules;
+      refused = search rules;
+      memory = search rules;
+      cleared = λ fault. same_cleared c.args.name.now (g.D.Disk.told c.args.disk.now)
+          (g.D.Disk.told c.read_left.new.disk) c.read_left.ensures.same;
+      touches = λ fault. same_touches (is_working c.args.name.now) _ _ c.read_left.ensures.same;
+      others = others_same (is_own c.args.name.now) _ _ c.read_left.ensures.same;
+      partly = λ fault. same_partly c.args.name.now _ (g.D.Disk.told c.args.disk.now)
+          (g.D.Disk.told c.read_left.new.disk) c.read_left.ensures.same;
+      story = same_story _ _ c.read_left.ensures.same;
+      calm = search rules;
+      firm = same_firm _ _ c.read_left.ensures.same;
+      later = search rules;
+      cause = search rules;
+      within = search rules;
+    })

@@ -1,3 +1,4 @@
+use Rattle.std.proofs.lemmas.Result.{err_from_is_err_and}
 use Rattle.std.proofs.Common.{ap}
 use Rattle.std.specs.Str.{bytes_eq}
 use Rattle.sccs_base.specs.Name.{x_file}
@@ -9,36 +10,38 @@ use Rattle.sccs_store.proofs.Working.{same_touches, touches_from}
 use Rattle.sccs_alter.proofs.PrepareLaws.{read_fails, read_prepares, read_settles, read_speaks}
 use Rattle.sccs_alter.proofs.alters.AlterChange.prepare.Goals as goal
 
-pub returns-in-Ok-clause-prepares : goal.returns-in-Ok-clause-prepares
-returns-in-Ok-clause-prepares g c = λ err.
-    read_prepares c.args.self.now.words.now c.write_read.result c.args.name.now _ c.in-Ok.x
+pub returns-clause-prepares : goal.returns-clause-prepares
+returns-clause-prepares g c = λ err.
+    read_prepares c.args.self.now.words.now c.write_read.result c.args.name.now _ c.in_ok-x.x
     (seen (g.D.Disk.told c.args.disk.now)) (g.D.Disk.told c.read_both.new.disk)
     (g.D.Disk.told c.write_read.new.disk) _ err c.requires.sfile
-    (ap seen c.read_both.ensures.frame.same) c.in-Ok.ensures.placed c.in-Ok.ensures.told c.write_read.ensures.new
+    (ap seen c.read_both.ensures.frame.same) c.in_ok-x.ensures.placed c.in_ok-x.ensures.told c.write_read.ensures.new
     c.write_read.ensures.frame.moves c.write_read.ensures.told
 
-pub returns-in-Ok-clause-touches : goal.returns-in-Ok-clause-touches
-returns-in-Ok-clause-touches g c =
+pub returns-clause-touches : goal.returns-clause-touches
+returns-clause-touches g c =
     touches_from (is_working c.args.name.now) _ (g.D.Disk.told c.read_both.new.disk) _ c.read_both.ensures.frame.same
     (only_wider (bytes_eq (x_file c.args.name.now)) (is_working c.args.name.now) _ _ (no_x c.args.name.now)
     c.write_read.ensures.frame.touches)
 
-pub returns-in-Ok-clause-entries : goal.returns-in-Ok-clause-entries
-returns-in-Ok-clause-entries g c =
-    read_settles c.args.self.now.words.now c.write_read.result c.args.name.now c.in-Ok.x
+pub returns-clause-entries : goal.returns-clause-entries
+returns-clause-entries g c =
+    read_settles c.args.self.now.words.now c.write_read.result c.args.name.now c.in_ok-x.x
     (seen (g.D.Disk.told c.args.disk.now)) (g.D.Disk.told c.read_both.new.disk)
     (g.D.Disk.told c.write_read.new.disk) c.requires.sfile
-    (ap seen c.read_both.ensures.frame.same) c.in-Ok.ensures.placed c.in-Ok.ensures.rules c.in-Ok.ensures.spelled
-    c.in-Ok.ensures.told c.write_read.ensures.new c.write_read.ensures.frame.moves c.write_read.ensures.told
+    (ap seen c.read_both.ensures.frame.same) c.in_ok-x.ensures.placed c.in_ok-x.ensures.rules c.in_ok-x.ensures.spelled
+    c.in_ok-x.ensures.told c.write_read.ensures.new c.write_read.ensures.frame.moves c.write_read.ensures.told
 
-pub returns-in-Ok-clause-speaks : goal.returns-in-Ok-clause-speaks
-returns-in-Ok-clause-speaks g c = read_speaks c.write_read.result c.write_read.ensures.new c.write_read.ensures.checks
+pub returns-clause-speaks : goal.returns-clause-speaks
+returns-clause-speaks g c = read_speaks c.write_read.result c.write_read.ensures.new c.write_read.ensures.checks
 
-pub returns-in-Err-clause-prepares : goal.returns-in-Err-clause-prepares
-returns-in-Err-clause-prepares g c = λ err.
-    read_fails c.args.self.now.words.now c.in-Err.fault c.args.name.now _ (seen (g.D.Disk.told c.args.disk.now))
+pub returns-in_err-x-clause-prepares : goal.returns-in_err-x-clause-prepares
+returns-in_err-x-clause-prepares g c =
+    let p = err_from_is_err_and c.from_residual.result c.from_residual.ensures.1 in
+    rw (p.1, p.2) (λ err.
+    read_fails c.args.self.now.words.now c.in_err-x.field-0.0 c.args.name.now _ (seen (g.D.Disk.told c.args.disk.now))
     (seen (g.D.Disk.told c.read_both.new.disk)) _ err c.requires.sfile (ap seen c.read_both.ensures.frame.same)
-    c.in-Err.ensures.told
+    c.in_err-x.ensures.told)
 
-pub returns-in-Err-clause-touches : goal.returns-in-Err-clause-touches
-returns-in-Err-clause-touches g c = same_touches (is_working c.args.name.now) _ _ c.read_both.ensures.frame.same
+pub returns-in_err-x-clause-touches : goal.returns-in_err-x-clause-touches
+returns-in_err-x-clause-touches g c = same_touches (is_working c.args.name.now) _ _ c.read_both.ensures.frame.same

@@ -1,3 +1,4 @@
+use Rattle.std.proofs.lemmas.Result.{err_from_is_err_and}
 use Rattle.std.proofs.Common.{ap}
 use Rattle.std.specs.Str.{bytes_eq}
 use Rattle.sccs_base.specs.Name.{x_file}
@@ -11,41 +12,43 @@ use Rattle.sccs_rcs.proofs.ImportLaws.{find_fails, found_prepares, rcs_ready, rc
 use Rattle.sccs_rcs.proofs.imports.ImportChange.prepare.Goals as goal
 use Rattle.sccs_changes.proofs.StopLaws.{firm_still}
 
-pub returns-in-Ok-clause-prepares : goal.returns-in-Ok-clause-prepares
-returns-in-Ok-clause-prepares g c = λ err.
-    found_prepares c.args.self.now.heading c.write_rcs.result c.in-Ok.rcs c.args.name.now _ _
+pub returns-clause-prepares : goal.returns-clause-prepares
+returns-clause-prepares g c = λ err.
+    found_prepares c.args.self.now.heading c.write_rcs.result c.in_ok-rcs.rcs c.args.name.now _ _
     (seen (g.D.Disk.told c.find_rcs.new.disk)) _ _ err c.requires.sfile (ap seen c.find_rcs.ensures.frame.same)
-    c.in-Ok.ensures.finds
+    c.in_ok-rcs.ensures.finds
     c.write_rcs.ensures.writes
 
-pub returns-in-Ok-clause-needs : goal.returns-in-Ok-clause-needs
-returns-in-Ok-clause-needs g c = rcs_ready c.args.self.now.heading c.write_rcs.result _ c.args.name.now
+pub returns-clause-needs : goal.returns-clause-needs
+returns-clause-needs g c = rcs_ready c.args.self.now.heading c.write_rcs.result _ c.args.name.now
     (g.D.Disk.told c.find_rcs.new.disk) _ (there_still _ _ _ c.find_rcs.ensures.frame.same c.requires.locked)
     c.write_rcs.ensures.writes
 
-pub returns-in-Ok-clause-speaks : goal.returns-in-Ok-clause-speaks
-returns-in-Ok-clause-speaks g c = rcs_speaks c.args.self.now.heading c.write_rcs.result _ c.args.name.now _ _
+pub returns-clause-speaks : goal.returns-clause-speaks
+returns-clause-speaks g c = rcs_speaks c.args.self.now.heading c.write_rcs.result _ c.args.name.now _ _
     c.write_rcs.ensures.writes
 
-pub returns-in-Err-clause-prepares : goal.returns-in-Err-clause-prepares
-returns-in-Err-clause-prepares g c = λ err. find_fails c.args.self.now.heading c.in-Err.fault c.args.name.now _ _ _ _
-    err c.requires.sfile (ap seen c.find_rcs.ensures.frame.same) c.in-Err.ensures.finds
+pub returns-in_err-rcs-clause-prepares : goal.returns-in_err-rcs-clause-prepares
+returns-in_err-rcs-clause-prepares g c =
+    let p = err_from_is_err_and c.from_residual.result c.from_residual.ensures.1 in
+    rw (p.1, p.2) (λ err. find_fails c.args.self.now.heading c.in_err-rcs.field-0.0 c.args.name.now _ _ _ _
+    err c.requires.sfile (ap seen c.find_rcs.ensures.frame.same) c.in_err-rcs.ensures.finds)
 
-pub returns-in-Ok-clause-touches : goal.returns-in-Ok-clause-touches
-returns-in-Ok-clause-touches g c =
+pub returns-clause-touches : goal.returns-clause-touches
+returns-clause-touches g c =
     touches_from (is_working c.args.name.now) _ (g.D.Disk.told c.find_rcs.new.disk) _ c.find_rcs.ensures.frame.same
     (only_wider (bytes_eq (x_file c.args.name.now)) (is_working c.args.name.now) _ _ (no_x c.args.name.now)
     c.write_rcs.ensures.touches)
 
-pub returns-in-Ok-clause-firm : goal.returns-in-Ok-clause-firm
-returns-in-Ok-clause-firm g c = firm_still c.write_rcs.result c.args.name.now _ (g.D.Disk.told c.find_rcs.new.disk) _
+pub returns-clause-firm : goal.returns-clause-firm
+returns-clause-firm g c = firm_still c.write_rcs.result c.args.name.now _ (g.D.Disk.told c.find_rcs.new.disk) _
     c.find_rcs.ensures.frame.same c.write_rcs.ensures.firm
 
-pub returns-in-Ok-clause-entries : goal.returns-in-Ok-clause-entries
-returns-in-Ok-clause-entries g c =
+pub returns-clause-entries : goal.returns-clause-entries
+returns-clause-entries g c =
     rcs_settles c.args.self.now.heading c.write_rcs.result _ c.args.name.now (seen (g.D.Disk.told c.args.disk.now))
     (g.D.Disk.told c.find_rcs.new.disk) _ c.requires.sfile (ap seen c.find_rcs.ensures.frame.same)
-    c.in-Ok.ensures.free c.write_rcs.ensures.writes
+    c.in_ok-rcs.ensures.free c.write_rcs.ensures.writes
 
-pub returns-in-Err-clause-touches : goal.returns-in-Err-clause-touches
-returns-in-Err-clause-touches g c = same_touches (is_working c.args.name.now) _ _ c.find_rcs.ensures.frame.same
+pub returns-in_err-rcs-clause-touches : goal.returns-in_err-rcs-clause-touches
+returns-in_err-rcs-clause-touches g c = same_touches (is_working c.args.name.now) _ _ c.find_rcs.ensures.frame.same
