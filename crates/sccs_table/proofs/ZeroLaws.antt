@@ -1,6 +1,6 @@
 -- The blocks behind which a piece has only zeros.
-use Rattle.std.proofs.Common.{◌≡◌, ℕ, zero, suc, ◌+◌, ◌-◌, ◌*◌, ◌%◌, ◌<◌, ◌≤◌, false, not, ◌==◌, List, length, replicate}
-use Rattle.std.proofs.Common.{take, drop, get_or, refl, sym, ap, ◌∙◌, subst, arith, sum, ⊎_elim}
+use Rattle.std.proofs.Common.{◌≡◌, ℕ, zero, suc, ◌+◌, ◌-◌, ◌*◌, ◌%◌, ◌<◌, ◌≤◌, false, not, ◌==◌, List, length}
+use Rattle.std.proofs.Common.{replicate, take, drop, get_or, refl, sym, ap, ◌∙◌, subst, arith, sum, ⊎_elim}
 use Rattle.std.proofs.Math.Nat.{mul-zero}
 use Rattle.std.specs.Prelude.{count_ones}
 use Rattle.std.specs.Int.{bit_at}
