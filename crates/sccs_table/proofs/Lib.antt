@@ -5,3 +5,4 @@ pub mod LaneLaws
 pub mod MarkLaws
 pub mod ReaderLaws
 pub mod RunLaws
+mod ZeroLaws

@@ -164,7 +164,7 @@ ends_in bytes n = ap count_ones (mask_take n (map (λ b. b == 10) bytes) ∙ ap 
 pub ends_all : (bytes : List ℕ) → count_ones (bits_of 10 bytes) ≡ lf_count bytes
 ends_all bytes = ones-mask_l (λ b. b == 10) bytes
 
-count_on : (piece : List ℕ) (start count : ℕ) → lf_count (take (start + count) piece) ≡ lf_count (take start piece)
+pub count_on : (piece : List ℕ) (start count : ℕ) → lf_count (take (start + count) piece) ≡ lf_count (take start piece)
     + lf_count (take count (drop start piece))
 count_on piece start count = ap lf_count (take-add start count piece) ∙ sum_by-append (λ b. bit (b == 10))
     (take start piece) (take count (drop start piece))

@@ -1,6 +1,6 @@
 -- Where LF and SOH stand in a piece, 64 bytes at a time.
-use Rattle.std.specs.Prelude.{◌≡◌, ◌≢◌, ℕ, ◌*◌, ◌<◌, ◌≤◌, ◌==◌, Bool, not, Option, None, Some, List, length, map, take}
-use Rattle.std.specs.Prelude.{drop, get_or, if◌then◌else◌}
+use Rattle.std.specs.Prelude.{◌≡◌, ◌≢◌, ℕ, ◌*◌, ◌-◌, ◌<◌, ◌≤◌, ◌==◌, Bool, not, Option, None, Some, List, length, map}
+use Rattle.std.specs.Prelude.{drop, get_or, if◌then◌else◌, replicate, take}
 use Rattle.std.specs.Int.{bit_at}
 use Rattle.std.specs.Simd.Lanes.{mask_l}
 use Rattle.sccs_base.specs.Cut.{HasNoLf}
@@ -12,6 +12,10 @@ use Rattle.sccs_table.specs.declared.piece_marks.PieceMarks.{PieceMarks}
 -- the 64 bytes of that number, from 0
 abbrev pub byte_block : ℕ → List ℕ → List ℕ
 byte_block n piece = take 64 (drop (64 * n) piece)
+
+-- a piece of 4,096 bytes is 0 from a place on
+abbrev pub IsZeroFrom : List ℕ → ℕ → Type 0
+IsZeroFrom piece at = drop at piece ≡ replicate (4096 - at) 0
 
 -- bit k is whether a byte stands at place k
 abbrev pub bits_of : ℕ → List ℕ → ℕ

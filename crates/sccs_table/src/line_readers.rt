@@ -3,7 +3,7 @@ ghost use Rattle.std.specs.Prelude.{length, max, min, replicate, take, drop, IfO
 ghost use Rattle.sccs_base.specs.Cut.{HasNoLf};
 ghost use Rattle.sccs_disk.specs.Told.{seen};
 ghost use Rattle.sccs_sid.specs.SidLists.{begins};
-ghost use Rattle.sccs_table.specs.Marks.{IsNextSoh, MarksOf};
+ghost use Rattle.sccs_table.specs.Marks.{IsNextSoh, IsZeroFrom, MarksOf};
 ghost use Rattle.sccs_table.specs.Runs.{HasNoMark, HasNoRun, IsMark, IsRun, lf_count};
 ghost use Rattle.sccs_table.specs.SumOf.{IsSumOf};
 ghost use Rattle.sccs_table.specs.FrontFile.{IsOuter, ReadsBytes, ReadsOn};
@@ -216,6 +216,20 @@ fn read_behind<D: Disk>(
     read_piece(disk, name, from, room, &mut piece[front..])
 }
 
+// how many bytes at the front of a piece may be other than 0, where so many stood there before a read
+#[inline(always)]
+fn filled_by(front: usize, read: Result<usize, Failed>) -> usize
+    requires { IfOk read (λ count. front + count ≤ 4096) }
+    ensures bound { result ≤ 4096 }
+    ensures rest { (piece : List ℕ) → length piece ≡ 4096 → IfOk read (λ count. IsZeroFrom piece (front + count))
+        → IsZeroFrom piece result }
+{
+    match read {
+        Ok(count) => front + count,
+        Err(_) => 4096,
+    }
+}
+
 // the first bytes, or all
 fn front_part(bytes: &[u8], count: usize) -> &[u8]
     ensures { result.now ≡ take count bytes.now }
@@ -326,7 +340,8 @@ impl LineReader {
             return Ok(false);
         }
         let read = read_piece(disk, &self.name, self.place, room, &mut self.piece);
-        let total = self.marks.read(&self.piece);
+        let filled = filled_by(0, read);
+        let total = self.marks.read(&self.piece, filled);
         let count = read?;
         let before = SUM_LINE.saturating_sub(self.place) as usize;
         self.sum.add_behind(total, front_part(&self.piece, before));
@@ -468,7 +483,8 @@ impl LineReader {
         self.end = held;
         self.whole = 0;
         let read = read_behind(disk, &self.name, from, held, room, &mut self.piece);
-        let total = self.marks.read(&self.piece);
+        let filled = filled_by(held, read);
+        let total = self.marks.read(&self.piece, filled);
         let count = read?;
         let before = held + SUM_LINE.saturating_sub(from) as usize;
         self.sum.add_behind(total, front_part(&self.piece, before));

@@ -1,11 +1,11 @@
 //! Where LF and SOH stand in a piece.
 ghost use Rattle.std.specs.Prelude.{◌≡◌, ◌≢◌, false, true, ℕ, List, ◌%◌, sum, ◌+◌, ◌*◌, ◌<◌, ◌≤◌, length, replicate};
-ghost use Rattle.std.specs.Prelude.{take, drop, get_or, if◌then◌else◌, ◌==◌};
+ghost use Rattle.std.specs.Prelude.{take, drop, get_or, if◌then◌else◌, ◌-◌, ◌==◌};
 ghost use Rattle.std.specs.Int.{bit_at};
 ghost use Rattle.sccs_base.specs.Cut.{HasNoLf};
 ghost use Rattle.sccs_table.specs.Runs.{lf_count};
-ghost use Rattle.sccs_table.specs.Marks.{AreMarked, AreSohs, Describes, HasNoSoh, IsNextBlock, IsNextSoh, MarksOf, bit};
-ghost use Rattle.sccs_table.specs.Marks.{bits_of, byte_block};
+ghost use Rattle.sccs_table.specs.Marks.{AreMarked, AreSohs, Describes, HasNoSoh, IsNextBlock, IsNextSoh, IsZeroFrom};
+ghost use Rattle.sccs_table.specs.Marks.{MarksOf, bit, bits_of, byte_block};
 
 use crate::counts::lines_in;
 use crate::piece_counts::{lanes_of, plain_count, plain_sum, sum_with};
@@ -106,9 +106,33 @@ fn block_behind(marked: u64, n: usize) -> Option<usize>
     }
 }
 
-// finds the SOHs of each block of a piece. Answers the marked blocks, and the sum of all bytes
-fn find_sohs(piece: &[u8], sohs: &mut [u64]) -> (u64, u16)
+// so many blocks have all bytes of a front
+#[inline(always)]
+fn blocks_of(filled: usize) -> usize
+    requires { filled ≤ 4096 }
+    ensures bound { result ≤ 64 }
+    ensures all { filled ≤ 64 * result }
+{
+    (filled + 63) / 64
+}
+
+// makes all numbers from a place on the same
+#[inline(always)]
+fn put_behind(numbers: &mut [u64], at: usize, number: u64)
+    requires { at ≤ length numbers.old }
+    ensures len { length numbers.new ≡ length numbers.old }
+    ensures front { take at numbers.new ≡ take at numbers.old }
+    ensures rest { drop at numbers.new ≡ replicate (length numbers.old - at) number }
+{
+    numbers[at..].fill(number);
+}
+
+// finds the SOHs of each block of a piece, of which so many at the front aren't all zeros. Answers the marked
+// blocks, and the sum of all bytes
+fn find_sohs(piece: &[u8], blocks: usize, sohs: &mut [u64]) -> (u64, u16)
     requires long { length piece.now ≡ 4096 }
+    requires fits { blocks ≤ 64 }
+    requires rest { IsZeroFrom piece.now (64 * blocks) }
     requires sohs { length sohs.old ≡ 64 }
     ensures marked { AreMarked result.0 piece.now 64 }
     ensures sohs { AreSohs sohs.new piece.now 64 }
@@ -116,19 +140,28 @@ fn find_sohs(piece: &[u8], sohs: &mut [u64]) -> (u64, u16)
 {
     let mut marked = 0;
     let mut total: u16 = 0;
-    for n in 0..64usize {
+    for n in 0..blocks {
         total = sum_with(total, lanes_of(piece, n));
         let bits = bits_at(piece, 64 * n, SOH);
         marked = with_bit(marked, n, bits != 0);
         sohs[n] = bits;
     }
+    put_behind(sohs, blocks, 0);
     (marked, total)
 }
 
-// describes the blocks of a piece, their LFs and SOHs; the number of all its LFs comes last in `before`.
-// Answers the marked blocks and the sum of all bytes
-fn describe(piece: &[u8], ends: &mut [u64], before: &mut [u64], sohs: &mut [u64]) -> (u64, u16)
+// describes the blocks of a piece, of which so many at the front aren't all zeros, their LFs and SOHs; the number
+// of all its LFs comes last in `before`. Answers the marked blocks and the sum of all bytes
+fn describe(
+    piece: &[u8],
+    blocks: usize,
+    ends: &mut [u64],
+    before: &mut [u64],
+    sohs: &mut [u64],
+) -> (u64, u16)
     requires long { length piece.now ≡ 4096 }
+    requires fits { blocks ≤ 64 }
+    requires rest { IsZeroFrom piece.now (64 * blocks) }
     requires ends { length ends.old ≡ 65 }
     requires before { length before.old ≡ 65 }
     requires sohs { length sohs.old ≡ 64 }
@@ -141,7 +174,7 @@ fn describe(piece: &[u8], ends: &mut [u64], before: &mut [u64], sohs: &mut [u64]
     let mut marked = 0;
     let mut count = 0;
     let mut total: u16 = 0;
-    for n in 0..64usize {
+    for n in 0..blocks {
         total = sum_with(total, lanes_of(piece, n));
         let bits = bits_at(piece, 64 * n, LF);
         let found = bits_at(piece, 64 * n, SOH);
@@ -151,7 +184,9 @@ fn describe(piece: &[u8], ends: &mut [u64], before: &mut [u64], sohs: &mut [u64]
         before[n] = count;
         count += u64::from(bits.count_ones());
     }
-    before[64] = count;
+    put_behind(sohs, blocks, 0);
+    put_behind(ends, blocks, 0);
+    put_behind(before, blocks, count);
     (marked, total)
 }
 
@@ -184,21 +219,27 @@ impl PieceMarks {
         }
     }
 
-    /// Looks at a piece, and answers the plain sum of its bytes.
-    pub fn read(&mut self, piece: &[u8]) -> u16
-        requires { length piece.now ≡ 4096 }
+    /// Looks at a piece, of which so many bytes at the front may be other than 0, and answers the plain sum of its
+    /// bytes.
+    pub fn read(&mut self, piece: &[u8], filled: usize) -> u16
+        requires long { length piece.now ≡ 4096 }
+        requires fits { filled ≤ 4096 }
+        requires rest { IsZeroFrom piece.now filled }
         ensures marks { MarksOf self.new piece.now }
         ensures sum { result ≡ sum piece.now % 65536 }
     {
+        let blocks = blocks_of(filled);
         match self.wanted {
-            LineEnds::Unasked => self.read_sohs(piece),
-            LineEnds::Asked => self.read_ends(piece),
+            LineEnds::Unasked => self.read_sohs(piece, blocks),
+            LineEnds::Asked => self.read_ends(piece, blocks),
         }
     }
 
     // looks for SOH alone
-    fn read_sohs(&mut self, piece: &[u8]) -> u16
-        requires { length piece.now ≡ 4096 }
+    fn read_sohs(&mut self, piece: &[u8], blocks: usize) -> u16
+        requires long { length piece.now ≡ 4096 }
+        requires fits { blocks ≤ 64 }
+        requires rest { IsZeroFrom piece.now (64 * blocks) }
         ensures marks { MarksOf self.new piece.now }
         ensures sum { result ≡ sum piece.now % 65536 }
     {
@@ -208,14 +249,16 @@ impl PieceMarks {
                 return total;
             }
         }
-        let (marked, total) = find_sohs(piece, &mut self.sohs);
+        let (marked, total) = find_sohs(piece, blocks, &mut self.sohs);
         self.marked = marked;
         total
     }
 
     // looks for LFs too
-    fn read_ends(&mut self, piece: &[u8]) -> u16
-        requires { length piece.now ≡ 4096 }
+    fn read_ends(&mut self, piece: &[u8], blocks: usize) -> u16
+        requires long { length piece.now ≡ 4096 }
+        requires fits { blocks ≤ 64 }
+        requires rest { IsZeroFrom piece.now (64 * blocks) }
         ensures marks { MarksOf self.new piece.now }
         ensures sum { result ≡ sum piece.now % 65536 }
     {
@@ -227,7 +270,13 @@ impl PieceMarks {
                 return count.total;
             }
         }
-        let (marked, total) = describe(piece, &mut self.ends, &mut self.before, &mut self.sohs);
+        let (marked, total) = describe(
+            piece,
+            blocks,
+            &mut self.ends,
+            &mut self.before,
+            &mut self.sohs,
+        );
         self.marked = marked;
         self.known = Known::Places;
         total

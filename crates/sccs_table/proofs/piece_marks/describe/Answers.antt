@@ -3,6 +3,7 @@ use Rattle.std.specs.Prelude.{count_ones, not, sum, ◌==◌}
 use Rattle.std.proofs.lemmas.List.{get_or-set_other, get_or-set_same}
 use Rattle.sccs_table.specs.Marks.{bit}
 use Rattle.sccs_table.proofs.MarkLaws.{count_block, count_bound, described_on, marked_on, sohs_on, sum_block}
+use Rattle.sccs_table.proofs.ZeroLaws.{counted_last, described_all, marked_all, sohs_all, sum_all}
 use Rattle.sccs_table.proofs.piece_marks.describe.Goals as goal
 
 pub overflow_add-count : goal.overflow_add-count
@@ -53,3 +54,29 @@ loop-n-preserved c =
       sum = sum_block c.args.piece.now n c.loop-n.total c.sum_with-total.result old.sum (c.sum_with-total.ensures
           ∙ ap (λ l. (c.loop-n.total + sum l) % 65536) c.lanes_of.ensures);
     }
+
+pub returns-clause-marked : goal.returns-clause-marked
+returns-clause-marked c = marked_all c.args.piece.now c.loop-n.marked c.loop-n.n c.args.blocks c.loop-n-test.false
+    c.loop-n.invariant.marked c.loop-n.invariant.above c.requires.rest
+
+pub returns-clause-sohs : goal.returns-clause-sohs
+returns-clause-sohs c = sohs_all c.args.piece.now c.loop-n.sohs c.put_behind.new.numbers c.loop-n.n c.args.blocks
+    c.loop-n-test.false c.loop-n.invariant.found c.loop-n.invariant.sohs c.put_behind.ensures.front
+    c.put_behind.ensures.rest c.requires.rest
+
+pub returns-clause-sum : goal.returns-clause-sum
+returns-clause-sum c = sum_all c.args.piece.now c.loop-n.total c.loop-n.n c.args.blocks
+    (omega (arith, c.loop-n-test.false, c.loop-n.invariant.end)) c.requires.rest c.loop-n.invariant.sum
+
+pub returns-clause-blocks : goal.returns-clause-blocks
+returns-clause-blocks c =
+    described_all c.args.piece.now c.loop-n.ends c.loop-n.before c.put_behind-2.new.numbers c.put_behind-3.new.numbers
+    c.loop-n.n c.args.blocks c.loop-n.count (omega (arith, c.loop-n-test.false, c.loop-n.invariant.end)) c.requires.fits
+    c.loop-n.invariant.blocks c.loop-n.invariant.ends c.loop-n.invariant.before c.put_behind-2.ensures.front
+    c.put_behind-2.ensures.rest c.put_behind-3.ensures.front c.put_behind-3.ensures.rest c.loop-n.invariant.count
+    c.requires.rest
+
+pub returns-clause-all : goal.returns-clause-all
+returns-clause-all c = counted_last c.args.piece.now c.loop-n.before c.put_behind-3.new.numbers c.loop-n.n c.args.blocks
+    c.loop-n.count (omega (arith, c.loop-n-test.false, c.loop-n.invariant.end)) c.requires.fits c.requires.long
+    c.loop-n.invariant.before c.put_behind-3.ensures.rest c.loop-n.invariant.count c.requires.rest

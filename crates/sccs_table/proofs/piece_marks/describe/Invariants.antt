@@ -16,6 +16,6 @@ invariant-loop-n l = record {
   ends : length l.ends ≡ 65;
   before : length l.before ≡ 65;
   sohs : length l.sohs ≡ 64;
-  end : l.n ≤ 64;
+  end : l.n ≤ l.blocks;
   sum : l.total ≡ sum (take (64 * l.n) l.piece) % 65536;
 }

@@ -11,6 +11,6 @@ invariant-loop-n l = record {
   sohs : AreSohs l.sohs l.piece l.n;
   above : (k : ℕ) → l.n ≤ k → bit_at l.marked k ≡ 0;
   long : length l.sohs ≡ 64;
-  end : l.n ≤ 64;
+  end : l.n ≤ l.blocks;
   sum : l.total ≡ sum (take (64 * l.n) l.piece) % 65536;
 }
