@@ -46,8 +46,7 @@ abbrev pub named_in : AdminWords → List (List ℕ)
 named_in words = named_by words.text ++ named_by words.description
 
 -- the text of the new file and that of its description; or the first check that fails: a named file isn't there, the
--- s-file
--- is, or a text is too long
+-- s-file is, or a text is too long
 unfoldable pub found_texts : AdminWords → List ℕ → List (Option Content) → Option Content → Result NewTexts Refusal
 found_texts words input named s = do
   text ← source words.text input named

@@ -26,9 +26,8 @@ use std::alloc::Global;
 
 /// admin on a name that is to become an s-file: POSIX, Shell and Utilities, admin, -n and -i, with -a, -f, -m, -r, -t
 /// and -y. It refuses a name that is locked, a named file that isn't there, an s-file that is, a text of more than
-/// 1,073,741,824 bytes, one of which a line begins with SOH, a text without keywords where the flag i wants one, flags
-/// that
-/// are none, and MRs that aren't as the flag v asks, in this order.
+/// 1,073,741,824 bytes, one of which a line begins with SOH, a text without keywords where the flag i wants one,
+/// flags that are none, and MRs that aren't as the flag v asks, in this order.
 #[derive(Drop)]
 pub struct Admin<'a> {
     pub words: &'a AdminWords,

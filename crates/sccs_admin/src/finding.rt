@@ -184,8 +184,7 @@ fn taken_text<I: Source>(
 }
 
 /// The texts of a new file, where its s-file isn't there yet. These checks are made in their order: a file that is
-/// named is
-/// there, the s-file isn't, no text is longer than 1,073,741,824 bytes. The input is read behind the second.
+/// named is there, the s-file isn't, no text is longer than 1,073,741,824 bytes. The input is read behind the second.
 pub fn find_texts<I: Source, D: Disk>(
     alloc: Global,
     words: &AdminWords,

@@ -14,8 +14,7 @@ ghost use Rattle.sccs_admin.specs.declared.finding.NewTexts.{NewTexts};
 ghost use Rattle.sccs_admin.specs.declared.rules.NewRules.{NewRules};
 
 /// What admin makes of its texts and words is an s-file of the header and the items that it wrote, and the version of
-/// its
-/// one delta is the text's lines.
+/// its one delta is the text's lines.
 pub fn new_files_are_read()
     ensures reads { (words : AdminWords) (stamp : Stamp) (texts : NewTexts) (rules : NewRules)
         → AreAdminValues words stamp → IsLogin stamp.login → IfSome words.comment AreLines → AreLines words.mrs

@@ -117,9 +117,9 @@ pub fn has_text(flags: &[Flag], letter: u8) -> bool
     }
 }
 
-// Whether MRs are as the flag v asks. MrNeeded comes where it is set and none is given, MrNotAllowed where it isn't and
-// some
-// are, Unsupported where it has a text, which would name a program, and some are given. sccsfile(4), "Flags".
+// Whether MRs are as the flag v asks. MrNeeded comes where it is set and none is given, MrNotAllowed where it isn't
+// and some are, Unsupported where it has a text, which would name a program, and some are given. sccsfile(4),
+// "Flags".
 #[tactic(auto, unfolding(crate::specs::Rules::mrs_fit))]
 fn check_mrs(flags: &[Flag], mrs: &Words) -> Result<(), StepFault>
     ensures value { PassesCheck (mrs_fit flags.now mrs.now) result }
@@ -170,8 +170,8 @@ fn new_description(alloc: Global, words: &AdminWords, texts: &NewTexts) -> Resul
 }
 
 /// What a new file is made with. These checks are made in their order: no line of the text and of the description
-/// begins with
-/// SOH, the text has a keyword where the flag i wants one, the flags are such, the MRs are as the flag v asks.
+/// begins with SOH, the text has a keyword where the flag i wants one, the flags are such, the MRs are as the flag v
+/// asks.
 pub fn new_rules(alloc: Global, words: &AdminWords, texts: &NewTexts) -> Result<NewRules, StepFault>
     requires { AreShort texts.now }
     ensures value { Answers (new_rules words.now texts.now) result }

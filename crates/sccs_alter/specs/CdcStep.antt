@@ -34,8 +34,7 @@ cdc_checks =
     ∷ number_of (refusals.Changed 0 0 0 0) ∷ []
 
 -- The live delta of a SID, where a login may change what is said of it: the login may make deltas, MRs are given only
--- where
--- the flag v is set, and names no program, and the login made the delta or the first one of the file.
+-- where the flag v is set, and names no program, and the login made the delta or the first one of the file.
 unfoldable pub changeable : CdcWords → Stamp → Header → Result Record Refusal
 changeable words stamp header = do
   allowed ← check (is_allowed header.users stamp.login) refusals.NotAllowed
@@ -56,8 +55,7 @@ changed_header words stamp header = do
   Ok (with_changes (text_changes words) stamp delta.serial header)
 
 -- the s-file is written anew with that header, also where nothing is changed; its body, p-file and g-file stay, and
--- nothing is
--- said
+-- nothing is said
 unfoldable pub cdc_outcome : CdcWords → Stamp → Step
 cdc_outcome words stamp n input named f = do
   parsed ← checked_file f.s

@@ -14,8 +14,7 @@ use Rattle.sccs_alter.specs.CdcStep.{changeable, text_changes}
 use Rattle.sccs_alter.specs.Changes.{AreSameDeltas, changed_delta, with_changes}
 
 -- MRs and comment of a delta are changed: all else of each record stays, and so do users, flags and description, the
--- items,
--- the live deltas, each set, each version, and the end of the comment.
+-- items, the live deltas, each set, each version, and the end of the comment.
 pub record ChangesTexts (words : CdcWords) (stamp : Stamp) (before after : Parsed) (delta : Record) : Type 0 where
   pub header : after.header ≡ with_changes (text_changes words) stamp delta.serial before.header
   pub items : after.items ≡ before.items

@@ -41,9 +41,8 @@ ReadsAt words n v (Err DiskFault) = Unit {0}
 ReadsAt words n v (Err ReadFault) = ⊥
 ReadsAt words n v (Err WriteFault) = ⊥
 
--- the x-file is that of the header over these items, or there is none; of a told file nothing else keeps from that but
--- the disk
--- and memory
+-- the x-file is that of the header over these items, or there is none; of a told file nothing else keeps from that
+-- but the disk and memory
 abbrev pub Alters : Result Prepared StepFault → Result Header Refusal → List Item → List ℕ → Option View → Option View
     → Type 0
 Alters (Ok p) made items n old new = (h : Header) × (made ≡ Ok h)

@@ -10,9 +10,8 @@ ghost use Rattle.sccs_alter.specs.NewVersions.{ChangesDelta};
 ghost use Rattle.sccs_alter.specs.CdcParts.{HasLines};
 
 /// A cdc that is accepted changes the MRs and the comment of the delta that the words mean, and nothing else: no
-/// version,
-/// no set, no item and nothing else of a record; the old comment is the end of the new one, and the file can be read
-/// again.
+/// version, no set, no item and nothing else of a record; the old comment is the end of the new one, and the file can
+/// be read again.
 pub fn changes_keep_versions()
     ensures { (words : CdcWords) (stamp : Stamp) (n i : List ℕ) (named : List (Option Content))
         (f : Files) (old : Content) (effect : StepEffect)

@@ -36,11 +36,10 @@ use sccs_table::Front;
 use sccs_words::CdcWords;
 use std::alloc::Global;
 
-/// cdc on a name: the MRs and the comment of the live delta of a SID are changed. It refuses a name that is locked, an
-/// s-file that isn't there or can't be read, a login that may not make deltas, a SID that no live delta has, MRs where
-/// the
-/// flag v isn't set or names a program, and a login that made neither the delta nor the first one, in this order. SCCS
-/// has cdc, and POSIX lacks it.
+/// cdc on a name: the MRs and the comment of the live delta of a SID are changed. It refuses a name that is locked,
+/// an s-file that isn't there or can't be read, a login that may not make deltas, a SID that no live delta has, MRs
+/// where the flag v isn't set or names a program, and a login that made neither the delta nor the first one, in this
+/// order. SCCS has cdc, and POSIX lacks it.
 #[derive(Drop)]
 pub struct Cdc<'a> {
     pub words: &'a CdcWords,

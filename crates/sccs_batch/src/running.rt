@@ -113,8 +113,7 @@ pub fn refuse_input<E: Sink>(err: &mut E) -> Result<u8, Fault>
 
 /// Runs the entries that the input is, in their order, each with its own stamp, words and input. Behind the output of
 /// each stands its status, as `= STATUS`. At the first entry that is none the line of its `@` is said, and the status
-/// is
-/// 1; where the input was read to its end it is 0. Of an input past the limit nothing is run.
+/// is 1; where the input was read to its end it is 0. Of an input past the limit nothing is run.
 pub fn run_batch<C: Commands, I: Source, O: Sink, E: Sink, D: Disk>(
     alloc: Global,
     commands: &C,

@@ -29,8 +29,7 @@ abbrev pub rest_of : ItemPlace → List ℕ → Cut
 rest_of r file = cut (drop (max r.body.from r.body.lines.place) file)
 
 -- The reader stands behind some items, the last first, in the file that the first reading found; and from here on its
--- body has
--- these items, or its first fault at the line of this number.
+-- body has these items, or its first fault at the line of this number.
 pub record ToCome (file live : List ℕ) (before : List Item) (found : Result (List Item) ℕ) (r : ItemPlace) : Type 0
   where
     pub behind : IsBehind live before r

@@ -80,9 +80,8 @@ pub record AreTakenOrGone (n : List ℕ) (c : Plan) (u v : View) : Type 0 where
   pub q : IsTakenOrGone c.p (u (q_file n)) (v (q_file n))
   pub y : IsTakenOrGone c.g (u (y_file n)) (v (y_file n))
 
--- The new files are prepared, the text before the commit is written, at most working files have changed, and the l-file
--- where it is
--- new before the commit; working files that the commit doesn't take are gone, or as they were.
+-- The new files are prepared, the text before the commit is written, at most working files have changed, and the
+-- l-file where it is new before the commit; working files that the commit doesn't take are gone, or as they were.
 pub record IsPreparedBy (first : Bool) (n : List ℕ) (p : Prepared) (o : Outcome) (w w2 : World) : Type 0 where
   pub effect : StepEffect
   pub is : o ≡ Ok effect

@@ -56,8 +56,7 @@ abbrev pub kept_g : Bool → Option Content → Option Content
 kept_g keep g = if keep then g else None
 
 -- What becomes of the p-file is prepared: a commit makes it the p-file of these entries, and takes the q-file, unless
--- there is
--- none, or it is as it was.
+-- there is none, or it is as it was.
 pub record PreparesEntries (n : List ℕ) (edits : List Edit) (new : NewFile) (before told : Told) : Type 0 where
   pub chosen_is : IfSome (seen told) (λ (v : View). (old : Option Content) → chosen new (v (q_file n)) old
       ≡ pfile_of edits)

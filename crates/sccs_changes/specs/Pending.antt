@@ -1,6 +1,5 @@
--- An s-file and its pending edits, as get -e, delta and unget find them (POSIX, each). The order of the checks is own:
--- each
--- size is judged before any content.
+-- An s-file and its pending edits, as get -e, delta and unget find them (POSIX, each). The order of the checks is
+-- own: each size is judged before any content.
 use Rattle.std.specs.Prelude.{◌≡◌, ℕ, ◌&&◌, List, [], ◌∷◌, Option, None, Some, is_some, option_map, Bool, true, Result}
 use Rattle.std.specs.Prelude.{Ok, Err}
 use Rattle.sccs_disk.specs.Files.{Content}
@@ -47,8 +46,7 @@ abbrev pub agreement_checks : List ℕ
 agreement_checks = number_of (refusals.Disagree 0) ∷ []
 
 -- What is found in an s-file and a p-file; or the first check that fails: there is no s-file, one of the two is too
--- long, the
--- s-file isn't one, a line of the p-file is no entry, or an entry doesn't agree with the table.
+-- long, the s-file isn't one, a line of the p-file is no entry, or an entry doesn't agree with the table.
 unfoldable pub pending_of : Option Content → Option Content → Result Found Refusal
 pending_of s p = do
   there ← check (is_some s) Missing

@@ -21,8 +21,7 @@ pub record IsFirmPrepared (n : List ℕ) (p : Prepared) (old new : Told) : Type 
   pub q_state : OnReplace (plan_of p).p (Leaves (IsFirm (q_file n)) old new)
 
 -- where there is no p-file without an s-file, and no entry of it has its delta in the s-file, recovery makes the new
--- p-file of
--- the old one, and keeps the new one; and there is no new one without a new s-file
+-- p-file of the old one, and keeps the new one; and there is no new one without a new s-file
 abbrev pub SettlesEntries : List ℕ → Prepared → Told → Type 0
 SettlesEntries n p told = IfSome (seen told) (λ v. IsPaired n v → IsSound n v → KeepsEntries n (plan_of p) v
     × ArePaired (files_after n (plan_of p) v).s (files_after n (plan_of p) v).p)

@@ -12,8 +12,7 @@ abbrev pub counted_output : SplicerState → ℕ → List (Item × Bool) → Opt
 counted_output s lines told = if s.line + base_count told == lines then Some (items_owed s told) else None
 
 -- It stands behind items in whose open regions its weaver is; its output are the items that are to come with those of
--- the new delta,
--- where the set shows as many lines as were counted.
+-- the new delta, where the set shows as many lines as were counted.
 abbrev pub base_splicing : Filter BaseSplicer
 base_splicing = record {
   stands = λ b before. Holds b.set before b.weaver;

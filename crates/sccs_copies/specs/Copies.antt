@@ -52,8 +52,7 @@ IsOuterResult (Ok x) = Unit {0}
 IsOuterResult (Err fault) = IsFaultAroundCopy fault
 
 -- A call that puts some text while another file is read: at every exit at most the writer's file is another, and a
--- failing disk
--- is counted.
+-- failing disk is counted.
 pub record PutsSome {T : Type 0} (w w2 : Writer) (old new : Told) (faults faults_after : ℕ)
     (result : Result T FileFault) : Type 0 where
   pub text : List ℕ
@@ -196,8 +195,7 @@ MakesFile h items n old new (Ok done) = Becomes (λ v. put v n (Some (sealed h i
 MakesFile h items n old new (Err fault) = IsFaultAroundCopy fault
 
 -- A call that makes the file of a name and writes it: at most that file is another, at Ok it is there and firm, and a
--- failing disk is
--- counted.
+-- failing disk is counted.
 pub record MakesOneFile {T E : Type 0} (n : List ℕ) (failed : E) (old new : Told) (faults faults_after : ℕ)
     (result : Result T E) : Type 0 where
   pub moves : Moves (bytes_eq n) (λ v. v) (seen old) (seen new)

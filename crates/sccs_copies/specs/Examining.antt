@@ -40,8 +40,7 @@ abbrev pub has_keyword : List ℕ → Bool
 has_keyword line = list_any is_keyword (parts line)
 
 -- The number, from 1, of the first line at which two texts differ, or the number of lines of the shorter one plus 1,
--- where so
--- many lines before were equal; none where the texts are equal.
+-- where so many lines before were equal; none where the texts are equal.
 abbrev pub first_difference : ℕ → List (List ℕ) → List (List ℕ) → Option ℕ
 first_difference k [] [] = None
 first_difference k [] (b ∷ others) = Some (suc k)
@@ -112,8 +111,7 @@ line_texts (line ∷ lines) = line.text ∷ line_texts lines
 -- ---- what is found
 
 -- What a reading found of the result of a plan: how many lines the base has, whether a line of the result has a
--- keyword, and
--- where a g-file that is compared differs.
+-- keyword, and where a g-file that is compared differs.
 pub record FindsResult (g : Option (List ℕ)) (p : Plan) (base : List (List ℕ)) (compares : Bool) (found : Found) : Type
     0 where
   pub lines : found.lines ≡ length base

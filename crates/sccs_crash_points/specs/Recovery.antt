@@ -21,9 +21,8 @@ cleared n v = without_name (y_file n) (without_name (q_file n) (without_name (x_
 abbrev pub cleaned : List ℕ → View → View
 cleaned n v = put (cleared n v) (p_file n) (recovered_pfile (v n) (v (p_file n)))
 
--- The view after recovery of a name that no intent names (own). Where the z-file is there, x, q and y go, entries whose
--- delta
--- is made leave the p-file, and z goes; where it isn't, y goes alone.
+-- The view after recovery of a name that no intent names (own). Where the z-file is there, x, q and y go, entries
+-- whose delta is made leave the p-file, and z goes; where it isn't, y goes alone.
 abbrev pub recover_alone : List ℕ → View → View
 recover_alone n v = if is_some (v (z_file n)) then without_name (z_file n) (cleaned n v) else without_name (y_file n) v
 
@@ -41,9 +40,8 @@ abbrev pub fated : Fate → Option Content → Option Content → Option Content
 fated Replaced q p = newer q p
 fated Removed q p = None
 
--- The view after recovery of a name that an intent names (own): a new s-file that is there takes its place, and so does
--- a new
--- p-file, or the p-file goes; x, q, y and z go.
+-- The view after recovery of a name that an intent names (own): a new s-file that is there takes its place, and so
+-- does a new p-file, or the p-file goes; x, q, y and z go.
 abbrev pub recover_named : List ℕ → Fate → View → View
 recover_named n fate v =
     without_name (z_file n)
@@ -74,8 +72,7 @@ abbrev pub IsSettledPair : Pair → Type 0
 IsSettledPair x = recovered_pfile x.s x.p ≡ x.p
 
 -- No entry of the p-file has its delta in the s-file, so that recovery would leave the p-file as it is; and no intent
--- names
--- the name.
+-- names the name.
 pub record IsSound (n : List ℕ) (v : View) : Type 0 where
   pub entries : recovered_pfile (v n) (v (p_file n)) ≡ v (p_file n)
   pub unnamed : fate_at v n ≡ None

@@ -83,9 +83,8 @@ module _ (n : List ℕ) (old new : List Record) (edits : List Edit) (k : ℕ) (e
       s_is : chosen (replaced p.new_s) (u (x_file n)) (u n) ≡ Some x
       s_is = ap (λ (b : Bool). chosen (replaced b) (u (x_file n)) (u n)) new_s ∙ x_is
 
--- Where a delta read these entries, its x-file has the new delta behind the null deltas, and a commit leaves the other
--- entries,
--- recovery takes out its entry, and keeps the others.
+-- Where a delta read these entries, its x-file has the new delta behind the null deltas, and a commit leaves the
+-- other entries, recovery takes out its entry, and keeps the others.
 pub delta_settles : (n : List ℕ) (x : Pending) (stamp : Stamp) (number got : ℕ) (edit : Edit) (d : NewDelta)
     (header : Header) (items : List Item) (p : Prepared) (v u : View)
     → AnswersPending (v n) (v (p_file n)) (Ok x) → All IsEdit x.edits → Agrees x.front.header.records x.edits
@@ -115,9 +114,8 @@ delta_settles n x stamp number got edit d header items p v u read valid agree at
         (recursion_from_All IsEdit x.edits valid) agree at (delta_makes stamp x.front.header got x.edits edit d made)
         p c u new_s x_is (same ∙ o_is) (read_entries (Some c) o_is) chosen_is
 
--- The same of an s-file that was read: where the header with the new delta keeps the rules and has a spelling, and the
--- x-file has the
--- items of the script among those that were read.
+-- The same of an s-file that was read: where the header with the new delta keeps the rules and has a spelling, and
+-- the x-file has the items of the script among those that were read.
 pub delta_settles_read : (n : List ℕ) (x : Pending) (stamp : Stamp) (number got : ℕ) (edit : Edit) (d : NewDelta)
     (set : List ℕ) (orders : List Order) (p : Prepared) (v u : View) (read : AnswersPending (v n) (v (p_file n)) (Ok x))
     → IsHeader x.front.header → All IsEdit x.edits → Agrees x.front.header.records x.edits

@@ -1,6 +1,5 @@
 -- Entries whose delta was made leave the p-file, where the new table has the SID of one entry more. These are the
--- lemmas of
--- sccs_pfile on the entry that a delta takes, with a premise on the SIDs of the entries alone.
+-- lemmas of sccs_pfile on the entry that a delta takes, with a premise on the SIDs of the entries alone.
 use Rattle.std.proofs.Common.{◌≡◌, ℕ, true, false, not, ◌||◌, List, [], ◌∷◌, Some, Ok, refl, ap, subst, ◌∙◌}
 use Rattle.std.specs.Prelude.{remove, slice_get}
 use Rattle.std.specs.List.{AllByRecursion}

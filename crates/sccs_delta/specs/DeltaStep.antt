@@ -94,9 +94,8 @@ unused_from records reserved release zero = []
 unused_from records reserved release (suc count) = front_if (not (is_used records reserved release))
     (first_in_release release) (unused_from records reserved (suc release) count)
 
--- The SIDs of the null deltas: with the flag n, the first ones of the releases without a delta between those of the SID
--- got and
--- of the SID to be made, where both are on the trunk.
+-- The SIDs of the null deltas: with the flag n, the first ones of the releases without a delta between those of the
+-- SID got and of the SID to be made, where both are on the trunk.
 abbrev pub skipped : Header → Sid → Sid → List Sid → List Sid
 skipped header got made reserved =
     if has_flag header.flags flag_n && (got.branch == 0 && made.branch == 0) then unused_from header.records reserved

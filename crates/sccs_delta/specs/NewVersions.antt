@@ -54,8 +54,8 @@ pub record IsBaseOf (file : Parsed) (edit : Edit) (base : Base) : Type 0 where
   pub alone : edit.include ≡ [] → edit.exclude ≡ [] → base_text file base ≡ version_text file base.got
 
 -- A delta, with null deltas before it, is put on a file: it is the newest one, live, with the SID to be made, and its
--- version is what
--- the script makes of the base; a null delta's version is that of the delta got; all older versions stay.
+-- version is what the script makes of the base; a null delta's version is that of the delta got; all older versions
+-- stay.
 pub record AddsVersions (before after : Parsed) (edit : Edit) (base : Base) (orders : List Order) : Type 0 where
   pub newer : newest before.header.records < newest after.header.records
   pub sid : serial_of after.header.records edit.made ≡ Some (newest after.header.records)

@@ -86,8 +86,7 @@ abbrev pub serial_made : CallRead → ℕ
 serial_made r = suc (newest r.file.header.records + length (skipped_by r.file.header r.edits r.entry.edit))
 
 -- The text on which its delta is made: without lists that of the delta got; else what the set of the delta got, with
--- the lists, shows
--- of the s-file.
+-- the lists, shows of the s-file.
 abbrev pub replayed_base : Texts → CallRead → List (List ℕ)
 replayed_base texts r = if is_empty r.entry.edit.include && is_empty r.entry.edit.exclude then texts r.entry.base.got
     else base_text r.file r.entry.base
@@ -112,9 +111,8 @@ replayed_calls n s texts [] = texts
 replayed_calls n s texts (c ∷ calls) = replayed_calls n (s_behind s (call_outcome n s c))
     (texts_after texts (call_outcome n s c) (call_read s c)) calls
 
--- The s-file behind calls on a file can be read, the version of each live serial is its replay from the versions at the
--- start, and
--- each serial that was there keeps its version.
+-- The s-file behind calls on a file can be read, the version of each live serial is its replay from the versions at
+-- the start, and each serial that was there keeps its version.
 pub record ReplaysVersions (n : List ℕ) (s : Content) (file : Parsed) (calls : List DeltaCall) : Type 0 where
   pub last : Parsed
   pub reads : IsSFile (s_after n s calls).bytes last.header last.items

@@ -72,8 +72,7 @@ WritesX h items n old new (Err ReadFault) = ⊥
 WritesX h items n old new (Err WriteFault) = ⊥
 
 -- The x-file is this s-file, whose header has a spelling, a commit leaves these entries and the g-file or none, and
--- each working
--- file that it doesn't take is gone, or as it was.
+-- each working file that it doesn't take is gone, or as it was.
 pub record WritesFiles (n : List ℕ) (h : Header) (items : List Item) (edits : List Edit) (keep : Bool)
     (report message : List ℕ) (p : Prepared) (old new : Told) : Type 0 where
   pub spelled : IsSpelled h

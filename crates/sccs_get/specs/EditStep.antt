@@ -44,9 +44,8 @@ reserved_of words stamp place n f = do
 abbrev pub g_after : GetWords → List ℕ → Option Content → Option Content
 g_after words text g = if writes_g words then Some (record { bytes = text; writable = stays_writable words }) else g
 
--- The entries are one more, last; the text goes to out before that with -p, becomes the g-file, or is none with -g; and
--- the report
--- goes to err with -p.
+-- The entries are one more, last; the text goes to out before that with -p, becomes the g-file, or is none with -g;
+-- and the report goes to err with -p.
 abbrev pub edit_effect : GetWords → Bool → List ℕ → List Record → Files → List Edit → Edit → Version → List HistoryLine
     → StepEffect
 edit_effect words heading n records f edits edit version lines =

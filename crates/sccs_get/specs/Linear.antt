@@ -24,8 +24,7 @@ pub record AsksNewest (words : GetWords) : Type 0 where
   pub cutoff : words.cutoff ≡ None
 
 -- There is a record; each is live, on the trunk and without lists; SIDs rise with serials; the predecessor of each
--- record is the
--- next one in the table, 0 for the last; and no flag d names a SID.
+-- record is the next one in the table, 0 for the last; and no flag d names a SID.
 pub record IsLinearFile (parsed : Parsed) : Type 0 where
   pub some : is_empty parsed.header.records ≡ false
   pub linear : IsLinear parsed.header.records

@@ -113,8 +113,7 @@ write_went m past w b run = record {
   guarded = guards_touched is_plan m run.added (λ n sfile. plan_and_sfile n sfile) (λ n sfile. refl) run.each;
 }
 
--- the plan alone was touched
--- so the z-file of each name of an intent is there where it was
+-- the plan alone was touched so the z-file of each name of an intent is there where it was
 plan_holds : (m m2 : Model) → Touches is_plan m m2 → Allows IsHeld m → Allows IsHeld m2
 plan_holds m m2 touches all = λ w image n sfile some.
     let x : (u : View) × Image m u × ((k : List ℕ) → is_plan k ≡ false → u k ≡ w k) = touches.images w image in

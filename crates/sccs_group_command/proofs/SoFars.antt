@@ -272,9 +272,8 @@ pub same_next : (stamp : Stamp) (made : List PreparedEntry) (e : GroupEntry) (u 
 same_next stamp made e u v sfile apart plain held alike = same_files (is_any_left (made_names made)) e.name u v
     (outside_any (made_names made) e.name (held_sfiles u v made held) sfile apart plain) alike
 
--- the next entry's step, in the view that the steps before it leave: it is that of the view in which they are prepared,
--- but for the
--- l-file that it passes on
+-- the next entry's step, in the view that the steps before it leave: it is that of the view in which they are
+-- prepared, but for the l-file that it passes on
 pub next_outcome : (stamp : Stamp) (made : List PreparedEntry) (e : GroupEntry) (u v : View)
     → (is_sfile_name e.name ≡ true → IsSFileName e.name) → is_among (made_names made) e.name ≡ false
     → IsPlainName e.name → ArePlain (made_names made) → AreHeld u v made

@@ -144,9 +144,8 @@ pub record IsGivenBack (working : List ℕ → Bool) (u v : View) : Type 0 where
   pub view : Alike working v u
   pub cleared : (k : List ℕ) → working k ≡ true → (v k ≡ None) ⊎ (v k ≡ u k)
 
--- what giving up a name answers and leaves: the working files and the z-file are gone, and the answer is the fault; or
--- the disk
--- failed
+-- what giving up a name answers and leaves: the working files and the z-file are gone, and the answer is the fault;
+-- or the disk failed
 abbrev pub GivesBack : StepFault → StepFault → List ℕ → Option View → Option View → Type 0
 GivesBack r fault n old new = ((r ≡ fault) × (fault ≢ DiskFault) × Becomes (abandoned n) old new)
     ⊎ ((r ≡ DiskFault) × Moves (is_left n) (λ v. v) old new)

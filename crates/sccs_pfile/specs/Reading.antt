@@ -1,10 +1,7 @@
 -- What the bytes of a p-file say (System V, p-file; POSIX, get -e): one line for each entry, of the SID that was got,
--- the
--- SID that is to be made, login, date and time, and the lists of -i and -x where they were given. How lines are read
--- that
--- this suite doesn't write is own: one or more blanks stand between two parts, blanks may stand at the end and none at
--- the
--- start, each list stands at most once, in any order, and each line ends with LF.
+-- the SID that is to be made, login, date and time, and the lists of -i and -x where they were given. How lines are
+-- read that this suite doesn't write is own: one or more blanks stand between two parts, blanks may stand at the end
+-- and none at the start, each list stands at most once, in any order, and each line ends with LF.
 use Rattle.std.specs.Prelude.{◌≡◌, ℕ, ◌+◌, ◌==◌, List, [], ◌∷◌, Option, Some, None, Result, Ok, Err, if◌then◌else◌}
 use Rattle.sccs_base.specs.Cut.{cut}
 use Rattle.sccs_base.specs.Login.{is_login}

@@ -1,6 +1,5 @@
 -- The p-file that recovery leaves (own): a delta that was stopped behind the change of its s-file has its SID in the
--- table
--- and its entry in the p-file still. So the entries whose SID to be made is live leave the p-file.
+-- table and its entry in the p-file still. So the entries whose SID to be made is live leave the p-file.
 use Rattle.std.specs.Prelude.{ℕ, Bool, true, not, List, [], ◌∷◌, filter, Option, None, Some, option_map, Result, Ok}
 use Rattle.std.specs.Prelude.{Err, if◌then◌else◌}
 use Rattle.std.specs.List.{list_any}
@@ -44,9 +43,8 @@ recovered_by None read p = Some p
 recovered_by (Some records) (Err line) p = Some p
 recovered_by (Some records) (Ok edits) p = entries_dropped records edits p
 
--- The p-file that recovery leaves of an s-file and a p-file: without the entries whose delta is made. Where one of the
--- two
--- isn't there or can't be read it is as it was.
+-- The p-file that recovery leaves of an s-file and a p-file: without the entries whose delta is made. Where one of
+-- the two isn't there or can't be read it is as it was.
 abbrev pub recovered_pfile : Option Content → Option Content → Option Content
 recovered_pfile s None = None
 recovered_pfile None (Some p) = Some p

@@ -97,16 +97,14 @@ Spares file (Ok x) = Unit {0}
 Spares file (Err fault) = SparesSink file fault
 
 -- A target that a text may be given to from its start: it holds nothing back, and a target file is there and another
--- than the one
--- that is read.
+-- than the one that is read.
 pub record IsFreshTarget (target : Target) (read : List ℕ) (told : Told) : Type 0 where
   pub empty : held_back target ≡ []
   pub there : CanTake (file_of target) told
   pub apart : IsApart (file_of target) read
 
 -- What a call leaves that gives text to a target: at most that gets something, no other sink fails, and no check but
--- those of a file
--- that is read.
+-- those of a file that is read.
 pub record UsesTarget {O D T : Type 0} (file : Option (List ℕ)) (given : O → Option (List ℕ)) (out_faults : O → ℕ)
     (told : D → Told) (faults : D → ℕ) (out out2 : O) (disk disk2 : D) (result : Result T StepFault) : Type 0 where
   pub reaches : Reaches file (given out) (given out2) (told disk) (told disk2)
@@ -133,8 +131,7 @@ Prints file text (Ok x) a b = GivesOk a b text
 Prints file text (Err fault) a b = IsCut file text fault a b
 
 -- What a call leaves that appends text to a file alone: at most that is another, no stream fails, and no check but
--- those of a file that
--- is read.
+-- those of a file that is read.
 pub record WritesText {T : Type 0} (n : List ℕ) (old new : Told) (faults faults_after : ℕ)
     (result : Result T StepFault) : Type 0 where
   pub only : OnlyWrites n old new

@@ -73,13 +73,14 @@ fn put_items<O: Sink, D: Disk>(
         → GivesHeld (body_text rest) result listing.old.buffer listing.new.buffer (O.given out.old) (O.given out.new) }
 {
     'items: loop {
-        match items.next(disk)? {
-            Some(item) => {
+        match items.next(disk) {
+            Ok(Some(item)) => {
                 if let Err(fault) = put_line(&item, listing, out) {
                     return Err(fault);
                 }
             }
-            None => return Ok(()),
+            Ok(None) => return Ok(()),
+            Err(fault) => return Err(StepFault::from(fault)),
         }
     }
 }

@@ -44,7 +44,10 @@ fn show<O: Sink, D: Disk>(
     ensures causes { PrintCauses result (O.faults out.old) (O.faults out.new) (D.faults disk.old) (D.faults disk.new) }
     ensures checks { RefusesWithin prs_checks result }
 {
-    let front = inspect(alloc, disk, name)?;
+    let front = match inspect(alloc, disk, name) {
+        Ok(front) => front,
+        Err(fault) => return Err(StepFault::from(fault)),
+    };
     let chosen = match chosen_of(words, front.header.records.items()) {
         Ok(chosen) => chosen,
         Err(_) => return Err(StepFault::Refused(Refusal::NoSid)),

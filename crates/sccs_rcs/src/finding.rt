@@ -94,8 +94,7 @@ fn trunk_in(alloc: Global, found: &Found) -> Result<Rcs, StepFault>
 }
 
 /// The trunk of the RCS file of a name that has no s-file yet. These checks are made in their order: the RCS file is
-/// there,
-/// the s-file isn't, the RCS file has at most 1,073,741,824 bytes, and a trunk.
+/// there, the s-file isn't, the RCS file has at most 1,073,741,824 bytes, and a trunk.
 pub fn find_rcs<D: Disk>(alloc: Global, name: &Name, disk: &mut D) -> Result<Rcs, StepFault>
     requires { IsSFileName name.now }
     ensures finds { FindsRcs result name.now (seen (D.told disk.old)) }

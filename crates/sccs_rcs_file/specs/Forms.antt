@@ -91,8 +91,7 @@ pub record AreViable (tokens : List Token) : Type 0 where
   pub whole : file_tokens file ≡ tokens ++ more
 
 -- what comes behind tokens can't: the end, where they are no file; or bytes that are no token, or a token with which
--- they
--- can't be followed to a file
+-- they can't be followed to a file
 abbrev pub Fails : List Token → ℕ → List Lexeme → Type 0
 Fails tokens left [] = (left ≡ 0) × ((f : RcsFile) → IsFile f → file_tokens f ≡ tokens → ⊥)
 Fails tokens left (l ∷ rest) = (left ≡ l.left) × ((token : Token) → l.token ≡ Some token

@@ -10,9 +10,8 @@ use Rattle.sccs_steps.specs.declared.faults.Fault.TheVariants as ends
 use Rattle.sccs_group.specs.Finishing.{CanFinish}
 use Rattle.sccs_group.specs.Recovering.{IsWellFormed}
 
--- Recovery may begin: what it needs is firm, names of an intent are locked and recovery leaves the pairs that it makes
--- of them, and
--- an intent that is there has its form.
+-- Recovery may begin: what it needs is firm, names of an intent are locked and recovery leaves the pairs that it
+-- makes of them, and an intent that is there has its form.
 pub record MayRecover (m : Model) : Type 0 where
   pub finish : CanFinish m
   pub form : IsWellFormed (view_of m intent_file)

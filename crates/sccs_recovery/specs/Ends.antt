@@ -15,10 +15,9 @@ use Rattle.sccs_store.specs.Commits.{Becomes}
 use Rattle.sccs_recovery.specs.Checks.{IsWithin, checked, recovers_if}
 
 -- At Ok the name is recovered and the disk is calm. At a refusal nothing has changed, at want of memory the working
--- files alone,
--- and where the disk fails each file is as it was or as recovery would make it. The call may be stopped at any moment
--- and made
--- again, and s-files and p-files stay firm. The files of other names stay as they are at each moment.
+-- files alone, and where the disk fails each file is as it was or as recovery would make it. The call may be stopped
+-- at any moment and made again, and s-files and p-files stay firm. The files of other names stay as they are at each
+-- moment.
 pub record RecoversName {T : Type 0} (n : List ℕ) (old new : Told) (faults faults_after : ℕ)
     (result : Result T StepFault) : Type 0 where
   pub view : OnOk result (Becomes (recover_alone n) (seen old) (seen new))

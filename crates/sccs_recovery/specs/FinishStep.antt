@@ -1,6 +1,5 @@
 -- The step that finishes a group which was stopped, as the first one of recover: for each name of the intent that is
--- there the
--- files of recovery (own), and no intent and no plan.
+-- there the files of recovery (own), and no intent and no plan.
 use Rattle.std.specs.Prelude.{ℕ, Bool, true, false, List, [], ◌∷◌, map, Option, None, Some, Err, if◌then◌else◌}
 use Rattle.std.specs.Result.{is_ok}
 use Rattle.sccs_base.specs.Name.{is_sfile_name, p_file, q_file, x_file}

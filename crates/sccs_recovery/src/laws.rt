@@ -22,8 +22,7 @@ pub fn finishing_keeps_what_recovers()
 {}
 
 /// A call that finishes a group, and then one that recovers names, may be stopped at any moment and begun again on
-/// whatever is
-/// left, from any disk on which the group may be finished; so may one in which finishing failed.
+/// whatever is left, from any disk on which the group may be finished; so may one in which finishing failed.
 pub fn any_disk_is_recovered()
     ensures goes_on { (x : Action) (steps : Steps) (given : List ℕ → Bool) (status : ℕ) (r : Result ℕ Fault)
         (a b c : Told)

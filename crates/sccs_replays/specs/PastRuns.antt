@@ -88,9 +88,8 @@ entry_run quiet place m made e = record {
 abbrev pub steps_of_entry : PastRun → List NamedStep
 steps_of_entry r = command_steps r.who (meaning r.words) r.folder r.input
 
--- the entries of a batch as runs, one after the other, of which so many steps are made in all; that the status of each
--- is written
--- is a step too
+-- the entries of a batch as runs, one after the other, of which so many steps are made in all; that the status of
+-- each is written is a step too
 abbrev pub entry_runs : List ℕ → Folder → ℕ → List BatchEntry → List PastRun
 entry_runs place m made [] = []
 entry_runs place m made (e ∷ es) =
@@ -265,9 +264,8 @@ abbrev pub imported_versions : Result Rcs Refusal → Texts
 imported_versions (Ok rcs) = λ m. text_behind (length rcs.revisions - m) rcs
 imported_versions (Err refusal) = λ m. []
 
--- the versions after an accepted step on a name in a folder: delta adds some, admin on a new file makes the first one,
--- import
--- makes those of a trunk, and all else leaves them; rmdel leaves those of the deltas that live on
+-- the versions after an accepted step on a name in a folder: delta adds some, admin on a new file makes the first
+-- one, import makes those of a trunk, and all else leaves them; rmdel leaves those of the deltas that live on
 abbrev pub versions_after_command : Caller → Command → List ℕ → Folder → List ℕ → Texts → Texts
 versions_after_command who (c.Delta words name) i m n texts = texts_with_delta (view_in m n) (call_in who words i m n)
     texts

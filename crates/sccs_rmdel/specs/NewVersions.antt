@@ -21,8 +21,8 @@ use Rattle.sccs_rmdel.specs.Removed.{KeepsVersions, without_delta}
 use Rattle.sccs_rmdel.specs.RmdelStep.{removable}
 
 -- A delta is taken out of a file: its record says so and the others stay, its lines and control items are gone, the
--- live
--- deltas are those that were but for it, and in a rooted table each of them has the set and the text that it had.
+-- live deltas are those that were but for it, and in a rooted table each of them has the set and the text that it
+-- had.
 pub record TakesOut (before after : Parsed) (delta : Record) : Type 0 where
   pub header : after.header ≡ without_delta delta.serial before.header
   pub items : after.items ≡ dropped delta.serial before.items

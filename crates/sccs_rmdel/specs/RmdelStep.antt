@@ -30,8 +30,7 @@ rmdel_checks =
     ∷ number_of refusals.NotTip ∷ number_of refusals.NotOwner ∷ number_of (refusals.Changed 0 0 0 0) ∷ []
 
 -- The live delta of a SID, where a login may remove it: the login may make deltas, no pending edit got or lists the
--- SID, the
--- delta is a leaf, and the login made it or the first delta of the file.
+-- SID, the delta is a leaf, and the login made it or the first delta of the file.
 unfoldable pub removable : Sid → Stamp → Header → List Edit → Result Record Refusal
 removable sid stamp header edits = do
   allowed ← check (is_allowed header.users stamp.login) refusals.NotAllowed

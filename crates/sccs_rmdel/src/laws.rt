@@ -46,9 +46,8 @@ pub fn removal_keeps_rules()
         → IsRooted (history_without n h) }
 {}
 
-/// A table whose one live delta is its first is rooted. A rooted table stays so with new deltas, the first of which is
-/// made on a live one; and so is the one on
-/// which the next is made.
+/// A table whose one live delta is its first is rooted. A rooted table stays so with new deltas, the first of which
+/// is made on a live one; and so is the one on which the next is made.
 pub fn new_deltas_keep_roots()
     ensures first { (records : List Record) → IsTable records → live_serials records ≡ 1 ∷ []
         → is_rooted records ≡ true }

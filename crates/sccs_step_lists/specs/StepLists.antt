@@ -13,10 +13,9 @@ use Rattle.sccs_steps.specs.StepLists.{NamedStep, folder_after, status_of}
 use Rattle.sccs_steps.specs.Unlocked.{AreExempt, ArePlain}
 use Rattle.sccs_steps.specs.declared.statuses.StatusRule.TheVariants.{Greatest}
 
--- The steps of one action. What is asked of names is asked of those of its parts: the steps themselves, but for a step
--- of several
--- names, whose parts are those of each name. It may finish what another call began, and take working files of the
--- parts' names.
+-- The steps of one action. What is asked of names is asked of those of its parts: the steps themselves, but for a
+-- step of several names, whose parts are those of each name. It may finish what another call began, and take working
+-- files of the parts' names.
 pub record Portion : Type 0 where
   pub by : Action
   pub steps : List NamedStep

@@ -18,10 +18,9 @@ ghost use Rattle.sccs_step_lists.specs.OwnFiles.{MakesOwn, StopsOwn, UnlockedOwn
 ghost use Rattle.sccs_step_lists.specs.Sayings.{BegunSaid, IsSaid, WholeNothing, WholeSaid};
 ghost use Rattle.sccs_step_lists.specs.Tests.{Passes, StatusPasses, StepsPass};
 
-/// A call that follows a list of steps to its end, and one that then follows what its status decides, follow both, one
-/// after the other; and one that ended a list of steps early ended what follows it too. What is asked of the input, and
-/// what
-/// may come over any disk, are given by tests.
+/// A call that follows a list of steps to its end, and one that then follows what its status decides, follow both,
+/// one after the other; and one that ended a list of steps early ended what follows it too. What is asked of the
+/// input, and what may come over any disk, are given by tests.
 pub fn step_lists_follow_one_another()
     ensures ended { (first : StepLists) (rest : ℕ → StepLists) (given given1 given2 : List ℕ → Bool) (whole : ℕ
         → List NamedStep → Bool) (begun : List NamedStep → Bool)

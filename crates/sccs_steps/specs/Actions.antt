@@ -137,8 +137,7 @@ pub record LeavesLocked (f g : Files) : Type 0 where
   pub z : g.z ≡ f.z
 
 -- An action that only reads changes no file, and one that changes files takes the names of s-files alone; one that
--- locks its name
--- leaves the files of a locked one, and one that doesn't changes nothing while an intent is there.
+-- locks its name leaves the files of a locked one, and one that doesn't changes nothing while an intent is there.
 pub record KeepsFiles (x : Action) : Type 0 where
   pub quiet : x.reads ≡ true → (n i : List ℕ) (named : List (Option Content)) (f : Files) (d : StepEffect)
       → x.step n i named f ≡ Ok d → d.new ≡ None
@@ -158,8 +157,7 @@ pub record IsSeen (w : List ℕ → Bool) (n : List ℕ) : Type 0 where
   pub l : w (l_file n) ≡ false
 
 -- of a command that only reads the files that it sees are no working files of others; of one that changes files the
--- working
--- files of the name are among them too
+-- working files of the name are among them too
 abbrev pub IsClear : Bool → (List ℕ → Bool) → List ℕ → Type 0
 IsClear reads w n = ((reads ≡ true) × IsSeen w n) ⊎ Apart w n
 

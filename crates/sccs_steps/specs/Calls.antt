@@ -31,8 +31,7 @@ abbrev pub shown : Scene → World
 shown a = world (seen a.told) a.out a.err
 
 -- Nothing is committed, though the l-file may be new; the working files that the step made are gone, and a prefix of
--- the text is
--- written.
+-- the text is written.
 pub record Uncommitted (n : List ℕ) (new : Option Files) (text : List ℕ) (w w2 : World) : Type 0 where
   pub view : MovesEarly n new w.view w2.view
   pub cleared : AreCleared n w.view w2.view
@@ -55,8 +54,7 @@ pub record ReportCut (n : List ℕ) (d : StepEffect) (w w2 : World) : Type 0 whe
   pub err : GivesSome w.err w2.err d.err
 
 -- The disk failed: some first of l-file, s-file, p-file and g-file are as the step makes them and the others as they
--- were, and a prefix
--- of the text is written.
+-- were, and a prefix of the text is written.
 pub record Interrupted (n : List ℕ) (o : Outcome) (w w2 : World) : Type 0 where
   pub view : MovesInOrder n (effect_of n o).new w.view w2.view
   pub out : GivesSome w.out w2.out (effect_of n o).text

@@ -40,9 +40,8 @@ given_more None after = 0
 given_more (Some given) None = 0
 given_more (Some given) (Some after) = length after - length given
 
--- The step behind k others is acknowledged: a byte of its report, or of what stands behind it, was written on out or on
--- err, or
--- the call answered Ok.
+-- The step behind k others is acknowledged: a byte of its report, or of what stands behind it, was written on out or
+-- on err, or the call answered Ok.
 abbrev pub IsAcknowledged : Result ℕ Fault → List NamedStep → ℕ → World → World → Type 0
 IsAcknowledged r ts k a b = (length (out_before ts k) < given_more a.out b.out)
     ⊎ ((length (err_before ts k) < given_more a.err b.err) ⊎ IsOk r)
@@ -54,8 +53,7 @@ abbrev pub IsAtNumber : (ℕ → View) → ℕ → ℕ → View → Type 0
 IsAtNumber views last j u = (k : ℕ) × ((k ≡ j) ⊎ (k ≡ j + 1)) × (k ≤ last) × RecoversAs (views k) u
 
 -- A call may begin on the disk: it is calm, and its view recovers as the folder does that is shown. Working files may
--- differ,
--- and recovery looks at those of a name that an intent names.
+-- differ, and recovery looks at those of a name that an intent names.
 pub record MayBegin (folder : Folder) (m : Model) : Type 0 where
   pub calm : IsCalm m
   pub recovers : RecoversAs (view_in folder) (view_of m)
@@ -107,8 +105,7 @@ pub record Spares (w : List ℕ → Bool) : Type 0 where
   pub intent : w intent_file ≡ false
 
 -- The crash points of steps. The last number is at least that of each step that is acknowledged, and but at a disk
--- fault the names that
--- were safe are safe again, after so many steps.
+-- fault the names that were safe are safe again, after so many steps.
 pub record RunCrashPoints (x : Action) (w : List ℕ → Bool) (r : Result ℕ Fault) (folder : Folder) (ts : List NamedStep)
     (a b : Scene) (m : Model) (past : List Model) : Type 0 where
   pub list : ListCrashPoints w r folder ts a b m past
@@ -116,7 +113,6 @@ pub record RunCrashPoints (x : Action) (w : List ℕ → Bool) (r : Result ℕ F
   pub safe : r ≢ Err DiskFault → StaySafe x (view_in folder) (view_at folder ts list.number)
   -- the same of every s-file's name
   pub keeps : r ≢ Err DiskFault → KeepsSafe (view_in folder) (view_at folder ts list.number)
-  -- whatever a stop leaves, in it each s-file's name is safe that was safe in whatever one could leave at the start, so
-  -- that the
-  -- next run may begin there
+  -- whatever a stop leaves, in it each s-file's name is safe that was safe in whatever one could leave at the start,
+  -- so that the next run may begin there
   pub images : Each (Allows (KeepsSafeFrom m)) list.went.added m

@@ -46,9 +46,8 @@ UnlockedBy x steps given old new = (w : List ℕ → Bool) (folder : Folder) (i 
     → BeginsUnlockedBut exempt old new
 
 -- The steps are made, where the disk tells its files; what a stop leaves of them; that names are changed that weren't
--- locked; what those leave that lock no name, on a disk that isn't
--- calm too; what the call answers and writes on err, over any disk; and what an action that only reads, that is silent,
--- or that takes no input leaves as it was.
+-- locked; what those leave that lock no name, on a disk that isn't calm too; what the call answers and writes on err,
+-- over any disk; and what an action that only reads, that is silent, or that takes no input leaves as it was.
 pub record RunsSteps (x : Action) (made : Steps) (given : List ℕ → Type 0) (says : Result ℕ Fault → Option (List ℕ)
     → Option (List ℕ) → Type 0) (hearing : Bool) (r : Result ℕ Fault) (s t : Setting) : Type 0 where
   pub steps : MakesBy x made given r s.stage t.stage

@@ -85,9 +85,8 @@ AreAllCleared w None new = Unit {0}
 AreAllCleared w (Some u) None = ⊥
 AreAllCleared w (Some u) (Some v) = (k : List ℕ) → w k ≡ true → (v k ≡ None) ⊎ (v k ≡ u k)
 
--- All steps are made: out and err have all that they write, the disk shows the last folder, and the working files that
--- they made
--- are gone.
+-- All steps are made: out and err have all that they write, the disk shows the last folder, and the working files
+-- that they made are gone.
 pub record Ran (w : List ℕ → Bool) (m : Folder) (ts : List NamedStep) (a b : World) : Type 0 where
   pub view : Shows w b.view (view_in (folder_after m ts))
   pub cleared : AreAllCleared w a.view b.view

@@ -24,10 +24,8 @@ abbrev pub IsPaired : List ℕ → View → Type 0
 IsPaired n v = ArePaired (v n) (v (p_file n))
 
 -- What the theorem on stops asks of a name: its g-file's name is none at which recovery looks; unless a step was
--- stopped
--- on it, no entry of its p-file has its delta in the s-file, and no intent names it; and recovery leaves no p-file
--- without an
--- s-file, and a pair that another recovery would leave as it is.
+-- stopped on it, no entry of its p-file has its delta in the s-file, and no intent names it; and recovery leaves no
+-- p-file without an s-file, and a pair that another recovery would leave as it is.
 pub record IsSafe (n : List ℕ) (v : View) : Type 0 where
   pub plain : is_kept (drop 2 n) ≡ false
   pub sound : v (z_file n) ≡ None → IsSound n v
@@ -60,8 +58,7 @@ abbrev pub meeting_place : (r : Result (Unit {0}) StepFault) → (n : List ℕ) 
 meeting_place r n o a b met = place_as (λ (done : Unit {0}). 0) r n o a b met
 
 -- From v, and to w where it is made; after it the name is safe again. Within it the name is safe in w, or all that a
--- stop leaves
--- recovers as v.
+-- stop leaves recovers as v.
 abbrev pub Ends : Place → Action → List ℕ → View → View → Model → List Model → Told → Type 0
 Ends Before x n v w m past new = EndsBefore v m past new
 Ends Within x n v w m past new = (ends : EndsWithin v w m past new)

@@ -140,9 +140,8 @@ pub fn run_operand<U: UtilityWithStatus, I: Source, O: Sink, E: Sink, D: Disk>(
 }
 
 /// Makes the steps of each operand in turn, and answers their status by the utility's rule. Where it begins on a calm
-/// disk
-/// and the names are safe, a stop at any moment leaves all names as after the same number of steps, no
-/// fewer than were acknowledged; and it ends on a calm disk, unless the disk failed.
+/// disk and the names are safe, a stop at any moment leaves all names as after the same number of steps, no fewer
+/// than were acknowledged; and it ends on a calm disk, unless the disk failed.
 pub fn run_operands<U: UtilityWithStatus, I: Source, O: Sink, E: Sink, D: Disk>(
     alloc: Global,
     utility: &U,

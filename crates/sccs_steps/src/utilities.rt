@@ -89,10 +89,9 @@ pub trait UtilityWithStatus {
         ensures { result ≡ (action self.now).rule };
 
     /// Makes the step of one file, and answers its status: 0 where files are changed. Where it begins on a calm disk
-    /// and the name is safe, a stop at any
-    /// moment leaves what recovers as before the step or as after it; and it ends on a calm disk, unless
-    /// the disk failed. One that doesn't lock its name may begin on any disk whose s-files and p-files are
-    /// firm: a stop leaves what recovers as something that one could leave at its start, they are firm at
+    /// and the name is safe, a stop at any moment leaves what recovers as before the step or as after it; and it ends
+    /// on a calm disk, unless the disk failed. One that doesn't lock its name may begin on any disk whose s-files and
+    /// p-files are firm: a stop leaves what recovers as something that one could leave at its start, they are firm at
     /// its end, and at Ok the disk is calm.
     fn step<I: Source, O: Sink, E: Sink, D: Disk>(
         &self,

@@ -1,6 +1,5 @@
 -- The y-file put in the place of the g-file or of the l-file: the calls, what they need so that a stop loses nothing,
--- and what a
--- stop leaves.
+-- and what a stop leaves.
 use Rattle.std.specs.Prelude.{◌≡◌, ◌⊎◌, ℕ, false, List, Option}
 use Rattle.std.specs.Str.{bytes_eq}
 use Rattle.sccs_base.specs.Name.{y_file}

@@ -5,9 +5,8 @@ use Rattle.sccs_base.specs.Cut.{Cut, HasNoLf, cut}
 use Rattle.sccs_disk.specs.Files.{Content, View}
 use Rattle.sccs_tokens.specs.Sums.{plain_sum}
 
--- The bytes that were read and not given yet, the place of the first of them, the file's name, the place up to which it
--- is
--- read at most, and the plain sum of all bytes that were read behind the sum line.
+-- The bytes that were read and not given yet, the place of the first of them, the file's name, the place up to which
+-- it is read at most, and the plain sum of all bytes that were read behind the sum line.
 pub record ReaderState : Type 0 where
   pub name : List ℕ
   pub held : List ℕ

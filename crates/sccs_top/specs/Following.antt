@@ -12,8 +12,7 @@ use Rattle.sccs_steps.specs.StepLists.{NamedStep}
 use Rattle.sccs_steps.specs.StepStops.{IsSafe}
 
 -- A run may begin on the disk, from a folder: each s-file's name is safe in it that is safe in the folder before. And
--- so it is of
--- the view that is told and whatever a stop could leave of a model.
+-- so it is of the view that is told and whatever a stop could leave of a model.
 pub record MayFollow (m : Model) (before after : Folder) (told : Told) : Type 0 where
   pub model : Model
   pub past : List Model
@@ -35,9 +34,8 @@ pub record IsPrefix (folder : Folder) (ts : List NamedStep) (u : View) : Type 0 
   pub most : count ≤ length ts
   pub pairs : (n : List ℕ) → IsSFileName n → pair_of u n ≡ pair_of (recover n (view_at folder ts count)) n
 
--- A stop was followed by the recovery of all names: they are as after a prefix of the steps, and each is safe that was
--- safe in
--- whatever a stop could leave of a model.
+-- A stop was followed by the recovery of all names: they are as after a prefix of the steps, and each is safe that
+-- was safe in whatever a stop could leave of a model.
 pub record FollowsStop (m : Model) (folder : Folder) (ts : List NamedStep) (w : View) : Type 0 where
   pub prefix : (u : View) → AllRecovered w u → IsPrefix folder ts u
   pub safe : (u : View) → AllRecovered w u → (n : List ℕ) → IsSFileName n → Allows (IsSafe n) m → IsSafe n u

@@ -71,7 +71,6 @@ use Rattle.sccs_top.specs.declared.asking.Asked.{Asked}
 use Rattle.sccs_top.specs.declared.asking.Asked.TheVariants as ask
 use Rattle.sccs_top.specs.declared.commands.CommandList.{CommandList}
 use Rattle.sccs_top.specs.declared.commands.CommandList.TheVariants as list
-use Rattle.sccs_top.specs.declared.commands.Context.{Context}
 use Rattle.sccs_top.specs.declared.commands.GroupUse.{GroupUse}
 use Rattle.sccs_top.specs.declared.commands.GroupUse.TheVariants as uses
 use Rattle.sccs_top.specs.declared.answers.Answer.{Answer}
@@ -98,9 +97,6 @@ caller_by quiet stamp place = record { stamp = stamp; place = place; quiet = qui
 
 abbrev pub caller : Stamp → List ℕ → Caller
 caller stamp place = caller_by false stamp place
-
-abbrev pub caller_in : Context → Caller
-caller_in context = caller_by context.quiet context.stamp.now context.place.now
 
 -- behind the end of a group that freed these names
 abbrev pub freeing : Caller → (List ℕ → Bool) → Caller
@@ -537,9 +533,8 @@ abbrev pub SpeaksWords : Caller → Result Asked Usage → Answer → Option (Li
 SpeaksWords who words answer err err2 = SpeaksTo (WholeWords who words) (BegunWords who words) (steps_answer answer) err
     err2
 
--- whether the words change no file, write nothing on out, and take no input; of two commands nothing is said but of the
--- input, which
--- the first one alone may take
+-- whether the words change no file, write nothing on out, and take no input; of two commands nothing is said but of
+-- the input, which the first one alone may take
 abbrev pub asked_reads : Caller → Asked → Bool
 asked_reads who (ask.One command) = is_of_operands command && (action_of who command).reads
 asked_reads who (ask.Two first next) = false
@@ -590,9 +585,8 @@ abbrev pub LeavesAskedInput : Caller → Asked → Result ℕ Fault → Setting 
 LeavesAskedInput who asked r s t = asked_takes_input who asked ≡ false
     → Ignores ends.ReadFault s.left t.left s.faults.input t.faults.input r
 
--- What a stop leaves of a run that begins on a calm disk, where the names of its steps are safe: all names as after one
--- number of
--- steps, no fewer than those that are acknowledged.
+-- What a stop leaves of a run that begins on a calm disk, where the names of its steps are safe: all names as after
+-- one number of steps, no fewer than those that are acknowledged.
 abbrev pub StopsSteps : Caller → Result Asked Usage → Answer → Option (List ℕ) → Scene → Scene → Type 0
 StopsSteps who words answer left a b = (folder : Folder) (i : List ℕ) (m : Model) (past : List Model)
     → IsGiven who words left folder i → Shows (working who words folder i) (seen a.told) (view_in folder)

@@ -60,7 +60,10 @@ fn read_one(alloc: Global, words: &Words) -> Result<Asked, WordsFault>
     ensures value { GivesAsked result (one_asked (meaning words.now)) }
     ensures valid { IfOk result HasValidCommands }
 {
-    Ok(Asked::One(read_words(alloc, words)?))
+    match read_words(alloc, words) {
+        Ok(command) => Ok(Asked::One(command)),
+        Err(fault) => Err(fault),
+    }
 }
 
 // the one command that the front end makes of words
@@ -68,7 +71,10 @@ fn read_alone(alloc: Global, words: &Words, first: &Words) -> Result<Asked, Word
     ensures value { GivesAsked result (one_asked (as_typed words.now first.now (meaning first.now))) }
     ensures valid { IfOk result HasValidCommands }
 {
-    Ok(Asked::One(read_first(alloc, words, first)?))
+    match read_first(alloc, words, first) {
+        Ok(command) => Ok(Asked::One(command)),
+        Err(fault) => Err(fault),
+    }
 }
 
 // the two that it makes
@@ -77,7 +83,10 @@ fn read_both(alloc: Global, words: &Words, first: &Words, next: &Words) -> Resul
         (meaning next.now)) }
     ensures valid { IfOk result HasValidCommands }
 {
-    let command = read_first(alloc, words, first)?;
+    let command = match read_first(alloc, words, first) {
+        Ok(command) => command,
+        Err(fault) => return Err(fault),
+    };
     match read_next(alloc, next) {
         Ok(next) => Ok(Asked::Two(command, next)),
         Err(_) => Err(WordsFault::Memory),

@@ -74,17 +74,14 @@ pub fn made_histories_replay()
 {}
 
 /// Of two commands that words of the front end stand for nothing is asked of the second: it has one operand at most,
-/// and
-/// no input.
+/// and no input.
 pub fn second_commands_ask_nothing()
     ensures { (who : Caller) (words : List (List ℕ)) → IfOk (asked_of words) (NextAsks who) }
 {}
 
 /// What recover prints and leaves is known on any disk, be it calm or as a disk fault left it: where the disk tells
-/// what
-/// recovers as the folder does, as where it tells the folder itself, its steps are those that `run` says, with an
-/// intent
-/// of a group too.
+/// what recovers as the folder does, as where it tells the folder itself, its steps are those that `run` says, with
+/// an intent of a group too.
 pub fn recovery_is_known()
     ensures known { (who : Caller) (words : Result Asked Usage) (told : Told) (folder : Folder) (i : List ℕ)
         → words_recover words ≡ true → RecoversTold told folder

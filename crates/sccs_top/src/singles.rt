@@ -1,16 +1,18 @@
 ghost use Rattle.std.specs.Prelude.{◌≡◌, true, Ok};
+ghost use Rattle.sccs_sid.specs.Moment.{IsMoment};
 ghost use Rattle.sccs_steps.specs.Settings.{setting_of};
 ghost use Rattle.sccs_words.specs.Meaning.{meaning};
 ghost use Rattle.sccs_batch.specs.BatchText.{is_single};
 ghost use Rattle.sccs_top.specs.CommandLaws.{command_might, command_takes};
-ghost use Rattle.sccs_top.specs.Runs.{BegunOf, FitsEntry, RunsWords, WholeOf, caller_by, caller_in, entry_command};
+ghost use Rattle.sccs_top.specs.Runs.{BegunOf, FitsEntry, RunsWords, WholeOf, caller_by, entry_command};
 
-use crate::commands::{Context, run_alone};
+use crate::commands::run_alone;
 use crate::messages::write_usage;
 use sccs_base::{Line, Sink, Source, SteadySource, Words};
 use sccs_batch::{BatchEntry, Commands};
 use sccs_disk::Disk;
-use sccs_steps::{Fault, Streams};
+use sccs_sid::Stamp;
+use sccs_steps::Fault;
 use sccs_words::{WordsFault, read_words};
 use std::alloc::Global;
 
@@ -18,27 +20,22 @@ use std::alloc::Global;
 fn run_words<I: Source, O: Sink, E: Sink, D: Disk>(
     alloc: Global,
     words: &Words,
-    context: &Context<'_>,
+    stamp: &Stamp,
+    place: &Line,
+    quiet: bool,
     input: &mut I,
     out: &mut O,
     err: &mut E,
     disk: &mut D,
 ) -> Result<u8, Fault>
+    requires moment { IsMoment stamp.now.moment }
     requires single { is_single words.now ≡ true }
-    ensures { RunsWords (caller_in context.now) (meaning words.now) result
+    ensures { RunsWords (caller_by quiet stamp.now place.now) (meaning words.now) result
         (setting_of I.Source O.Sink E.Sink D.Disk input.old out.old err.old disk.old)
         (setting_of I.Source O.Sink E.Sink D.Disk input.new out.new err.new disk.new) }
 {
     match read_words(alloc, words) {
-        Ok(command) => {
-            let mut streams = Streams {
-                input,
-                out,
-                err,
-                disk,
-            };
-            run_alone(alloc, &command, context, &mut streams)
-        }
+        Ok(command) => run_alone(alloc, &command, stamp, place, quiet, input, out, err, disk),
         Err(WordsFault::Usage(usage)) => match write_usage(&usage, err) {
             Ok(()) => Ok(2),
             Err(_) => Err(Fault::WriteFault),
@@ -80,11 +77,16 @@ impl<'a> Commands for Singles<'a> {
         let Ok(mut input) = SteadySource::new(alloc, entry.input.bytes()) else {
             return Err(Fault::Memory);
         };
-        let context = Context {
-            stamp: &entry.stamp,
-            place: self.place,
-            quiet: self.quiet,
-        };
-        run_words(alloc, &entry.words, &context, &mut input, out, err, disk)
+        run_words(
+            alloc,
+            &entry.words,
+            &entry.stamp,
+            self.place,
+            self.quiet,
+            &mut input,
+            out,
+            err,
+            disk,
+        )
     }
 }

@@ -1,6 +1,5 @@
 -- What val finds of an operand: POSIX, Shell and Utilities, val. That each value of -r which is no full SID is an
--- invalid one, and
--- not one that is missing, is our own.
+-- invalid one, and not one that is missing, is our own.
 use Rattle.std.specs.Prelude.{ℕ, ◌+◌, Bool, true, false, not, List, Option, None, Some, Result, Ok, Err, if◌then◌else◌}
 use Rattle.std.specs.Str.{bytes_eq}
 use Rattle.sccs_base.specs.Name.{is_sfile_name}

@@ -57,7 +57,10 @@ fn judge_operands<D: Disk>(
 {
     let mut status = 0;
     for operand in operands {
-        status |= judge_operand(alloc, words, operand.bytes(), report, disk)?;
+        match judge_operand(alloc, words, operand.bytes(), report, disk) {
+            Ok(bits) => status |= bits,
+            Err(fault) => return Err(fault),
+        }
     }
     Ok(status)
 }

@@ -119,7 +119,10 @@ pub fn print_lines<O: Sink, D: Disk>(
 {
     let mut status = 0;
     for line in lines {
-        status |= print_line(alloc, line.bytes(), out, disk)?;
+        match print_line(alloc, line.bytes(), out, disk) {
+            Ok(bits) => status |= bits,
+            Err(fault) => return Err(fault),
+        }
     }
     Ok(status)
 }

@@ -19,8 +19,7 @@ until_end [] = []
 until_end (b ∷ bytes) = if ends_text b then [] else b ∷ until_end bytes
 
 -- The texts behind the marks of bytes of which so many at the front belong to what was found already. The search goes
--- on at the
--- byte that ended the text before.
+-- on at the byte that ended the text before.
 abbrev pub texts_behind_marks_after : ℕ → List ℕ → List (List ℕ)
 texts_behind_marks_after skip [] = []
 texts_behind_marks_after (suc skip) (b ∷ bytes) = texts_behind_marks_after skip bytes

@@ -85,9 +85,10 @@ fn search_file<O: Sink, D: Disk>(
     let mut search = Search::Unfound;
     let mut from = 0;
     'pieces: while from < size {
-        match search_next(&mut search, first, name, from, &mut piece, held, out, disk)? {
-            Some(next) => from = next,
-            None => return finish(search, held, out),
+        match search_next(&mut search, first, name, from, &mut piece, held, out, disk) {
+            Ok(Some(next)) => from = next,
+            Ok(None) => return finish(search, held, out),
+            Err(fault) => return Err(fault),
         }
     }
     finish(search, held, out)

@@ -43,9 +43,8 @@ description_bytes lines = ended (mark 116) ++ (flat_map ended lines ++ ended (ma
 abbrev pub header_bytes : Header → List ℕ
 header_bytes h = bytes_of (header_lines h [])
 
--- A call that appends a header to a file: the sum line 00000 and the header, which is added to the sums. At every exit
--- at
--- most this file is another.
+-- A call that appends a header to a file: the sum line 00000 and the header, which is added to the sums. At every
+-- exit at most this file is another.
 pub record WritesHeader {T : Type 0} (h : Header) (n : List ℕ) (before after : ℕ × ℕ) (old new : Told)
     (faults faults_after : ℕ) (result : Result T DiskRefusal) : Type 0 where
   pub ok : OnOk result (Appends n (ended (sum_line 0) ++ header_bytes h) old new)

@@ -52,8 +52,7 @@ const LEFT_OUT: [Case<'static>; 1] = [Case {
 }];
 
 // whether a delta that passes over releases on a disk, behind some cases, leaves these texts in the s-file, and other
-// cases
-// end as they should
+// cases end as they should
 fn passes_on(
     alloc: Global,
     disk: &mut MemoryDisk,

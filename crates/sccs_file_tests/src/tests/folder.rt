@@ -6,8 +6,7 @@ use std::alloc::Global;
 use std::rt::Files;
 use std::test::Fail;
 
-// the names of a test are its own, since tests share a folder
-// whether a file is new, and has these bytes then
+// the names of a test are its own, since tests share a folder whether a file is new, and has these bytes then
 fn put(disk: &mut FolderDisk<HostRuntime>, name: &Name, bytes: &[u8]) -> bool {
     let _ = disk.remove(name);
     let created = disk.create(name) == Ok(Creation::Created);

@@ -88,8 +88,7 @@ impl Session {
     }
 
     // whether the next command leaves the files as behind its steps, or, stopped, as behind some first ones, all that
-    // were
-    // reported among them
+    // were reported among them
     fn goes_on(&mut self, alloc: Global, number: u64) -> Result<bool, Fail> {
         let time = format!(in alloc; "05:{:02}:{:02}", number / 60 % 60, number % 60)?;
         let command = draw(alloc, &mut self.draws, &self.files, &self.known, number)?;

@@ -5,7 +5,7 @@ use Rattle.sccs_words.specs.declared.commands.Usage.{Usage}
 use Rattle.sccs_words.specs.declared.commands.WordsFault.{WordsFault}
 use Rattle.sccs_steps.specs.Calls.{scene}
 use Rattle.sccs_steps.specs.Causes.{Ignores, RunCauses}
-use Rattle.sccs_steps.specs.Settings.{setting, setting_of}
+use Rattle.sccs_steps.specs.Settings.{setting_of}
 use Rattle.sccs_steps.specs.declared.faults.Fault.{Fault}
 use Rattle.sccs_steps.specs.declared.faults.Fault.TheVariants as ends
 use Rattle.sccs_top.specs.Asked.{GivesAsked, asked_of}
@@ -22,10 +22,12 @@ pub returns-in-Ok-clause-steps : goal.returns-in-Ok-clause-steps
 returns-in-Ok-clause-steps g c =
     words_end (caller c.args.stamp.now c.args.place.now) (asked_of c.args.words.now) c.ended.result c.run_asked.result
     (setting_of g.I.Source g.O.Sink g.E.Sink g.D.Disk c.args.input.now c.args.out.now c.args.err.now
-    c.args.disk.now) (setting g.I.Source g.O.Sink g.E.Sink g.D.Disk c.run_asked.new.streams) c.ended.ensures (asked_runs (caller c.args.stamp.now c.args.place.now)
+    c.args.disk.now) (setting_of g.I.Source g.O.Sink g.E.Sink g.D.Disk c.run_asked.new.input c.run_asked.new.out
+    c.run_asked.new.err c.run_asked.new.disk) c.ended.ensures (asked_runs (caller c.args.stamp.now c.args.place.now)
     (asked_of c.args.words.now) c.in-Ok.asked c.run_asked.result (setting_of g.I.Source g.O.Sink g.E.Sink g.D.Disk
     c.args.input.now c.args.out.now c.args.err.now c.args.disk.now)
-    (setting g.I.Source g.O.Sink g.E.Sink g.D.Disk c.run_asked.new.streams) c.in-Ok.ensures.value c.run_asked.ensures.run)
+    (setting_of g.I.Source g.O.Sink g.E.Sink g.D.Disk c.run_asked.new.input c.run_asked.new.out c.run_asked.new.err
+    c.run_asked.new.disk) c.in-Ok.ensures.value c.run_asked.ensures.run)
 
 pub returns-in-Ok-write_usage-clause-steps : goal.returns-in-Ok-write_usage-clause-steps
 returns-in-Ok-write_usage-clause-steps g c =
@@ -67,10 +69,12 @@ pub returns-in-Ok-clause-stops : goal.returns-in-Ok-clause-stops
 returns-in-Ok-clause-stops g c =
     words_stop (caller c.args.stamp.now c.args.place.now) (asked_of c.args.words.now) c.ended.result c.run_asked.result
     (setting_of g.I.Source g.O.Sink g.E.Sink g.D.Disk c.args.input.now c.args.out.now c.args.err.now
-    c.args.disk.now) (setting g.I.Source g.O.Sink g.E.Sink g.D.Disk c.run_asked.new.streams) c.ended.ensures (asked_runs (caller c.args.stamp.now c.args.place.now)
+    c.args.disk.now) (setting_of g.I.Source g.O.Sink g.E.Sink g.D.Disk c.run_asked.new.input c.run_asked.new.out
+    c.run_asked.new.err c.run_asked.new.disk) c.ended.ensures (asked_runs (caller c.args.stamp.now c.args.place.now)
     (asked_of c.args.words.now) c.in-Ok.asked c.run_asked.result (setting_of g.I.Source g.O.Sink g.E.Sink g.D.Disk
     c.args.input.now c.args.out.now c.args.err.now c.args.disk.now)
-    (setting g.I.Source g.O.Sink g.E.Sink g.D.Disk c.run_asked.new.streams) c.in-Ok.ensures.value c.run_asked.ensures.run)
+    (setting_of g.I.Source g.O.Sink g.E.Sink g.D.Disk c.run_asked.new.input c.run_asked.new.out c.run_asked.new.err
+    c.run_asked.new.disk) c.in-Ok.ensures.value c.run_asked.ensures.run)
 
 pub returns-in-Ok-write_usage-clause-stops : goal.returns-in-Ok-write_usage-clause-stops
 returns-in-Ok-write_usage-clause-stops g c =
@@ -112,10 +116,12 @@ pub returns-in-Ok-clause-speaks : goal.returns-in-Ok-clause-speaks
 returns-in-Ok-clause-speaks g c =
     words_speak (caller c.args.stamp.now c.args.place.now) (asked_of c.args.words.now) c.ended.result c.run_asked.result
     (setting_of g.I.Source g.O.Sink g.E.Sink g.D.Disk c.args.input.now c.args.out.now c.args.err.now
-    c.args.disk.now) (setting g.I.Source g.O.Sink g.E.Sink g.D.Disk c.run_asked.new.streams) c.ended.ensures (asked_runs (caller c.args.stamp.now c.args.place.now)
+    c.args.disk.now) (setting_of g.I.Source g.O.Sink g.E.Sink g.D.Disk c.run_asked.new.input c.run_asked.new.out
+    c.run_asked.new.err c.run_asked.new.disk) c.ended.ensures (asked_runs (caller c.args.stamp.now c.args.place.now)
     (asked_of c.args.words.now) c.in-Ok.asked c.run_asked.result (setting_of g.I.Source g.O.Sink g.E.Sink g.D.Disk
     c.args.input.now c.args.out.now c.args.err.now c.args.disk.now)
-    (setting g.I.Source g.O.Sink g.E.Sink g.D.Disk c.run_asked.new.streams) c.in-Ok.ensures.value c.run_asked.ensures.run)
+    (setting_of g.I.Source g.O.Sink g.E.Sink g.D.Disk c.run_asked.new.input c.run_asked.new.out c.run_asked.new.err
+    c.run_asked.new.disk) c.in-Ok.ensures.value c.run_asked.ensures.run)
 
 pub returns-in-Ok-write_usage-clause-speaks : goal.returns-in-Ok-write_usage-clause-speaks
 returns-in-Ok-write_usage-clause-speaks g c =
@@ -173,10 +179,12 @@ pub returns-in-Ok-clause-unlocked : goal.returns-in-Ok-clause-unlocked
 returns-in-Ok-clause-unlocked g c =
     words_unlocked (caller c.args.stamp.now c.args.place.now) (asked_of c.args.words.now) c.run_asked.result
     (setting_of g.I.Source g.O.Sink g.E.Sink g.D.Disk c.args.input.now c.args.out.now c.args.err.now
-    c.args.disk.now) (setting g.I.Source g.O.Sink g.E.Sink g.D.Disk c.run_asked.new.streams) (asked_runs (caller c.args.stamp.now c.args.place.now)
+    c.args.disk.now) (setting_of g.I.Source g.O.Sink g.E.Sink g.D.Disk c.run_asked.new.input c.run_asked.new.out
+    c.run_asked.new.err c.run_asked.new.disk) (asked_runs (caller c.args.stamp.now c.args.place.now)
     (asked_of c.args.words.now) c.in-Ok.asked c.run_asked.result (setting_of g.I.Source g.O.Sink g.E.Sink g.D.Disk
     c.args.input.now c.args.out.now c.args.err.now c.args.disk.now)
-    (setting g.I.Source g.O.Sink g.E.Sink g.D.Disk c.run_asked.new.streams) c.in-Ok.ensures.value c.run_asked.ensures.run)
+    (setting_of g.I.Source g.O.Sink g.E.Sink g.D.Disk c.run_asked.new.input c.run_asked.new.out c.run_asked.new.err
+    c.run_asked.new.disk) c.in-Ok.ensures.value c.run_asked.ensures.run)
 
 pub returns-in-Ok-write_usage-clause-unlocked : goal.returns-in-Ok-write_usage-clause-unlocked
 returns-in-Ok-write_usage-clause-unlocked g c =
@@ -197,7 +205,8 @@ pub returns-in-Ok-clause-recovers : goal.returns-in-Ok-clause-recovers
 returns-in-Ok-clause-recovers g c =
     words_recovered (caller c.args.stamp.now c.args.place.now) (asked_of c.args.words.now) c.in-Ok.asked c.ended.result
     c.run_asked.result (setting_of g.I.Source g.O.Sink g.E.Sink g.D.Disk c.args.input.now c.args.out.now
-    c.args.err.now c.args.disk.now) (setting g.I.Source g.O.Sink g.E.Sink g.D.Disk c.run_asked.new.streams) c.in-Ok.ensures.value c.ended.ensures
+    c.args.err.now c.args.disk.now) (setting_of g.I.Source g.O.Sink g.E.Sink g.D.Disk c.run_asked.new.input
+    c.run_asked.new.out c.run_asked.new.err c.run_asked.new.disk) c.in-Ok.ensures.value c.ended.ensures
     c.run_asked.ensures.leaves
 
 pub returns-in-Ok-write_usage-clause-recovers : goal.returns-in-Ok-write_usage-clause-recovers
@@ -220,13 +229,15 @@ pub returns-in-Ok-clause-reads : goal.returns-in-Ok-clause-reads
 returns-in-Ok-clause-reads g c =
     words_read (caller c.args.stamp.now c.args.place.now) (asked_of c.args.words.now) c.in-Ok.asked c.run_asked.result
     (setting_of g.I.Source g.O.Sink g.E.Sink g.D.Disk c.args.input.now c.args.out.now c.args.err.now
-    c.args.disk.now) (setting g.I.Source g.O.Sink g.E.Sink g.D.Disk c.run_asked.new.streams) c.in-Ok.ensures.value c.run_asked.ensures.leaves
+    c.args.disk.now) (setting_of g.I.Source g.O.Sink g.E.Sink g.D.Disk c.run_asked.new.input c.run_asked.new.out
+    c.run_asked.new.err c.run_asked.new.disk) c.in-Ok.ensures.value c.run_asked.ensures.leaves
 
 pub returns-in-Ok-clause-silent : goal.returns-in-Ok-clause-silent
 returns-in-Ok-clause-silent g c =
     words_are_silent (caller c.args.stamp.now c.args.place.now) (asked_of c.args.words.now) c.in-Ok.asked
     c.run_asked.result (setting_of g.I.Source g.O.Sink g.E.Sink g.D.Disk c.args.input.now c.args.out.now
-    c.args.err.now c.args.disk.now) (setting g.I.Source g.O.Sink g.E.Sink g.D.Disk c.run_asked.new.streams) c.in-Ok.ensures.value c.run_asked.ensures.leaves
+    c.args.err.now c.args.disk.now) (setting_of g.I.Source g.O.Sink g.E.Sink g.D.Disk c.run_asked.new.input
+    c.run_asked.new.out c.run_asked.new.err c.run_asked.new.disk) c.in-Ok.ensures.value c.run_asked.ensures.leaves
 
 pub returns-in-Ok-clause-ignores : goal.returns-in-Ok-clause-ignores
 returns-in-Ok-clause-ignores g c =
@@ -235,12 +246,14 @@ returns-in-Ok-clause-ignores g c =
     (g.I.Source.faults c.run_asked.new.input) r) (sym c.ended.ensures)
     (input_left (caller c.args.stamp.now c.args.place.now) (asked_of c.args.words.now) c.in-Ok.asked
     c.run_asked.result (setting_of g.I.Source g.O.Sink g.E.Sink g.D.Disk c.args.input.now c.args.out.now
-    c.args.err.now c.args.disk.now) (setting g.I.Source g.O.Sink g.E.Sink g.D.Disk c.run_asked.new.streams) c.in-Ok.ensures.value c.run_asked.ensures.input
+    c.args.err.now c.args.disk.now) (setting_of g.I.Source g.O.Sink g.E.Sink g.D.Disk c.run_asked.new.input
+    c.run_asked.new.out c.run_asked.new.err c.run_asked.new.disk) c.in-Ok.ensures.value c.run_asked.ensures.input
     none)
 
 pub returns-in-Ok-clause-causes : goal.returns-in-Ok-clause-causes
 returns-in-Ok-clause-causes g c =
     subst (λ (r : Result ℕ Fault). RunCauses r
     ((setting_of g.I.Source g.O.Sink g.E.Sink g.D.Disk c.args.input.now c.args.out.now c.args.err.now
-    c.args.disk.now)).faults ((setting g.I.Source g.O.Sink g.E.Sink g.D.Disk c.run_asked.new.streams)).faults) (sym c.ended.ensures)
+    c.args.disk.now)).faults ((setting_of g.I.Source g.O.Sink g.E.Sink g.D.Disk c.run_asked.new.input
+    c.run_asked.new.out c.run_asked.new.err c.run_asked.new.disk)).faults) (sym c.ended.ensures)
     c.run_asked.ensures.run.causes

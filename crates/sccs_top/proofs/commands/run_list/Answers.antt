@@ -9,4 +9,4 @@ returns-then-quiet-clause-run g c =
     subst (λ quiet. RunsOperands (hushed None quiet (g.U.UtilityWithStatus.action c.args.utility.now))
     (words_in c.args.operands.now) c.run_given.result (setting g.I.Source g.O.Sink g.E.Sink g.D.Disk
     c.args.streams.now) (setting g.I.Source g.O.Sink g.E.Sink g.D.Disk c.run_given.new.streams))
-    (sym c.if-context.true) c.run_given.ensures.run
+    (sym c.if-quiet.true) c.run_given.ensures.run
