@@ -71,6 +71,7 @@ use Rattle.sccs_top.specs.declared.asking.Asked.{Asked}
 use Rattle.sccs_top.specs.declared.asking.Asked.TheVariants as ask
 use Rattle.sccs_top.specs.declared.commands.CommandList.{CommandList}
 use Rattle.sccs_top.specs.declared.commands.CommandList.TheVariants as list
+use Rattle.sccs_top.specs.declared.context.Context.{Context}
 use Rattle.sccs_top.specs.declared.commands.GroupUse.{GroupUse}
 use Rattle.sccs_top.specs.declared.commands.GroupUse.TheVariants as uses
 use Rattle.sccs_top.specs.declared.answers.Answer.{Answer}
@@ -97,6 +98,9 @@ caller_by quiet stamp place = record { stamp = stamp; place = place; quiet = qui
 
 abbrev pub caller : Stamp → List ℕ → Caller
 caller stamp place = caller_by false stamp place
+
+abbrev pub caller_in : Context → Caller
+caller_in context = caller_by context.quiet context.stamp.now context.place.now
 
 -- behind the end of a group that freed these names
 abbrev pub freeing : Caller → (List ℕ → Bool) → Caller

@@ -60,10 +60,7 @@ fn read_one(alloc: Global, words: &Words) -> Result<Asked, WordsFault>
     ensures value { GivesAsked result (one_asked (meaning words.now)) }
     ensures valid { IfOk result HasValidCommands }
 {
-    match read_words(alloc, words) {
-        Ok(command) => Ok(Asked::One(command)),
-        Err(fault) => Err(fault),
-    }
+    Ok(Asked::One(read_words(alloc, words)?))
 }
 
 // the one command that the front end makes of words
@@ -71,10 +68,7 @@ fn read_alone(alloc: Global, words: &Words, first: &Words) -> Result<Asked, Word
     ensures value { GivesAsked result (one_asked (as_typed words.now first.now (meaning first.now))) }
     ensures valid { IfOk result HasValidCommands }
 {
-    match read_first(alloc, words, first) {
-        Ok(command) => Ok(Asked::One(command)),
-        Err(fault) => Err(fault),
-    }
+    Ok(Asked::One(read_first(alloc, words, first)?))
 }
 
 // the two that it makes
@@ -83,10 +77,7 @@ fn read_both(alloc: Global, words: &Words, first: &Words, next: &Words) -> Resul
         (meaning next.now)) }
     ensures valid { IfOk result HasValidCommands }
 {
-    let command = match read_first(alloc, words, first) {
-        Ok(command) => command,
-        Err(fault) => return Err(fault),
-    };
+    let command = read_first(alloc, words, first)?;
     match read_next(alloc, next) {
         Ok(next) => Ok(Asked::Two(command, next)),
         Err(_) => Err(WordsFault::Memory),

@@ -22,12 +22,13 @@ ghost use Rattle.sccs_top.specs.declared.commands.GroupUse.TheVariants as uses;
 ghost use Rattle.sccs_top.specs.declared.asking.Asked.TheVariants as ask;
 ghost use Rattle.sccs_top.specs.Runs.{LeavesAlone, LeavesAsked, LeavesAskedInput, LeavesInput, LeavesMeant, MakesSteps};
 ghost use Rattle.sccs_top.specs.Runs.{RecoversRun, RunsAlone, RunsAsked, RunsCommand, RunsMeant, SpeaksWords};
-ghost use Rattle.sccs_top.specs.Runs.{StopsSteps, UnlockedSteps, action_of, admin_in, admin_there, caller, caller_by};
+ghost use Rattle.sccs_top.specs.Runs.{StopsSteps, UnlockedSteps, action_of, admin_in, admin_there, caller, caller_in};
 ghost use Rattle.sccs_top.specs.Runs.{get_in, group_use, has_heading, hushed, is_silent, list_in, only_reads};
 ghost use Rattle.sccs_top.specs.Runs.{operands_of, steps_answer, val_words_of, words_in, words_take_input};
 
 use crate::answers::Answer;
 use crate::asking::{Asked, read_asked};
+use crate::context::Context;
 use crate::messages::write_usage;
 use crate::no_input::NoInput;
 use crate::singles::Singles;
@@ -142,14 +143,14 @@ fn run_list<U: UtilityWithStatus, I: Source, O: Sink, E: Sink, D: Disk>(
     alloc: Global,
     utility: &U,
     operands: &Operands,
-    quiet: bool,
+    context: &Context<'_>,
     streams: &mut Streams<I, O, E, D>,
 ) -> Result<u8, Fault>
     ensures loans { SameLoans streams.old streams.new }
-    ensures run { RunsOperands (hushed None quiet (U.action utility.now)) (words_in operands.now) result
+    ensures run { RunsOperands (hushed None context.now.quiet (U.action utility.now)) (words_in operands.now) result
         (setting I.Source O.Sink E.Sink D.Disk streams.old) (setting I.Source O.Sink E.Sink D.Disk streams.new) }
 {
-    if quiet {
+    if context.quiet {
         run_given(alloc, &Dropping { utility }, operands, streams)
     } else {
         run_given(alloc, utility, operands, streams)
@@ -161,14 +162,15 @@ fn run_ordinary<U: Utility + Drop, I: Source, O: Sink, E: Sink, D: Disk>(
     alloc: Global,
     utility: U,
     operands: &Operands,
-    quiet: bool,
+    context: &Context<'_>,
     streams: &mut Streams<I, O, E, D>,
 ) -> Result<u8, Fault>
     ensures loans { SameLoans streams.old streams.new }
-    ensures run { RunsOperands (hushed None quiet (ordinary (U.action utility))) (words_in operands.now) result
+    ensures run { RunsOperands (hushed None context.now.quiet (ordinary (U.action utility))) (words_in operands.now)
+        result
         (setting I.Source O.Sink E.Sink D.Disk streams.old) (setting I.Source O.Sink E.Sink D.Disk streams.new) }
 {
-    run_list(alloc, &Ordinary { utility }, operands, quiet, streams)
+    run_list(alloc, &Ordinary { utility }, operands, context, streams)
 }
 
 // admin on an s-file that is there: with -h it is checked alone
@@ -176,18 +178,18 @@ fn run_there<I: Source, O: Sink, E: Sink, D: Disk>(
     alloc: Global,
     words: &AdminWords,
     operands: &Operands,
-    quiet: bool,
+    context: &Context<'_>,
     streams: &mut Streams<I, O, E, D>,
 ) -> Result<u8, Fault>
     ensures loans { SameLoans streams.old streams.new }
-    ensures run { RunsOperands (hushed None quiet (admin_there words.now)) (words_in operands.now) result
+    ensures run { RunsOperands (hushed None context.now.quiet (admin_there words.now)) (words_in operands.now) result
         (setting I.Source O.Sink E.Sink D.Disk streams.old) (setting I.Source O.Sink E.Sink D.Disk streams.new) }
 {
     if words.check {
-        run_ordinary(alloc, Check, operands, quiet, streams)
+        run_ordinary(alloc, Check, operands, context, streams)
     } else {
         let change = Alter { words };
-        run_ordinary(alloc, Locking { change }, operands, quiet, streams)
+        run_ordinary(alloc, Locking { change }, operands, context, streams)
     }
 }
 
@@ -196,21 +198,21 @@ fn run_admin<I: Source, O: Sink, E: Sink, D: Disk>(
     alloc: Global,
     words: &AdminWords,
     operands: &Operands,
-    stamp: &Stamp,
-    quiet: bool,
+    context: &Context<'_>,
     streams: &mut Streams<I, O, E, D>,
 ) -> Result<u8, Fault>
     requires values { IfSome words.now.release IsComponent }
-    requires moment { IsMoment stamp.now.moment }
     ensures loans { SameLoans streams.old streams.new }
-    ensures run { RunsOperands (hushed None quiet (admin_in words.now stamp.now)) (words_in operands.now) result
+    ensures run { RunsOperands (hushed None context.now.quiet (admin_in words.now context.now.stamp.now))
+        (words_in operands.now) result
         (setting I.Source O.Sink E.Sink D.Disk streams.old) (setting I.Source O.Sink E.Sink D.Disk streams.new) }
 {
     if words.fresh {
+        let stamp = context.stamp;
         let change = Admin { words, stamp };
-        run_ordinary(alloc, Locking { change }, operands, quiet, streams)
+        run_ordinary(alloc, Locking { change }, operands, context, streams)
     } else {
-        run_there(alloc, words, operands, quiet, streams)
+        run_there(alloc, words, operands, context, streams)
     }
 }
 
@@ -219,18 +221,16 @@ fn run_get<I: Source, O: Sink, E: Sink, D: Disk>(
     alloc: Global,
     words: &GetWords,
     operands: &Operands,
-    stamp: &Stamp,
-    place: &Line,
-    quiet: bool,
+    context: &Context<'_>,
     streams: &mut Streams<I, O, E, D>,
 ) -> Result<u8, Fault>
     requires values { AreGetValues words.now }
-    requires moment { IsMoment stamp.now.moment }
     ensures loans { SameLoans streams.old streams.new }
-    ensures run { RunsOperands (hushed None quiet (get_in words.now (caller stamp.now place.now)
+    ensures run { RunsOperands (hushed None context.now.quiet (get_in words.now (caller_in context.now)
         (has_heading operands.now))) (words_in operands.now) result (setting I.Source O.Sink E.Sink D.Disk streams.old)
         (setting I.Source O.Sink E.Sink D.Disk streams.new) }
 {
+    let Context { stamp, place, .. } = *context;
     let heading = has_heading(operands);
     if words.edit {
         let change = Reserve {
@@ -239,7 +239,7 @@ fn run_get<I: Source, O: Sink, E: Sink, D: Disk>(
             place,
             heading,
         };
-        run_ordinary(alloc, Locking { change }, operands, quiet, streams)
+        run_ordinary(alloc, Locking { change }, operands, context, streams)
     } else {
         let get = Get {
             words,
@@ -247,7 +247,7 @@ fn run_get<I: Source, O: Sink, E: Sink, D: Disk>(
             place,
             heading,
         };
-        run_ordinary(alloc, get, operands, quiet, streams)
+        run_ordinary(alloc, get, operands, context, streams)
     }
 }
 
@@ -256,24 +256,23 @@ fn run_unget<I: Source, O: Sink, E: Sink, D: Disk>(
     alloc: Global,
     words: &UngetWords,
     operands: &Operands,
-    stamp: &Stamp,
-    quiet: bool,
+    context: &Context<'_>,
     streams: &mut Streams<I, O, E, D>,
 ) -> Result<u8, Fault>
-    requires moment { IsMoment stamp.now.moment }
     ensures loans { SameLoans streams.old streams.new }
     ensures run { RunsOperands
-        (hushed None quiet (locking (unget_change words.now stamp.now (has_heading operands.now))))
+        (hushed None context.now.quiet (locking (unget_change words.now context.now.stamp.now
+        (has_heading operands.now))))
         (words_in operands.now) result (setting I.Source O.Sink E.Sink D.Disk streams.old)
         (setting I.Source O.Sink E.Sink D.Disk streams.new) }
 {
     let heading = has_heading(operands);
     let change = Unget {
         words,
-        stamp,
+        stamp: context.stamp,
         heading,
     };
-    run_ordinary(alloc, Locking { change }, operands, quiet, streams)
+    run_ordinary(alloc, Locking { change }, operands, context, streams)
 }
 
 // tell and check
@@ -281,31 +280,31 @@ fn run_pending<I: Source, O: Sink, E: Sink, D: Disk>(
     alloc: Global,
     whole: bool,
     operands: &Operands,
-    quiet: bool,
+    context: &Context<'_>,
     streams: &mut Streams<I, O, E, D>,
 ) -> Result<u8, Fault>
     ensures loans { SameLoans streams.old streams.new }
-    ensures run { RunsOperands (hushed None quiet (pending_action whole)) (words_in operands.now) result
+    ensures run { RunsOperands (hushed None context.now.quiet (pending_action whole)) (words_in operands.now) result
         (setting I.Source O.Sink E.Sink D.Disk streams.old) (setting I.Source O.Sink E.Sink D.Disk streams.new) }
 {
-    run_list(alloc, &Entries { whole }, operands, quiet, streams)
+    run_list(alloc, &Entries { whole }, operands, context, streams)
 }
 
 // import
 fn run_import<I: Source, O: Sink, E: Sink, D: Disk>(
     alloc: Global,
     operands: &Operands,
-    quiet: bool,
+    context: &Context<'_>,
     streams: &mut Streams<I, O, E, D>,
 ) -> Result<u8, Fault>
     ensures loans { SameLoans streams.old streams.new }
-    ensures run { RunsOperands (hushed None quiet (locking (import_change (has_heading operands.now))))
+    ensures run { RunsOperands (hushed None context.now.quiet (locking (import_change (has_heading operands.now))))
         (words_in operands.now) result (setting I.Source O.Sink E.Sink D.Disk streams.old)
         (setting I.Source O.Sink E.Sink D.Disk streams.new) }
 {
     let heading = has_heading(operands);
     let change = Import { heading };
-    run_ordinary(alloc, Locking { change }, operands, quiet, streams)
+    run_ordinary(alloc, Locking { change }, operands, context, streams)
 }
 
 // cdc
@@ -313,17 +312,17 @@ fn run_cdc<I: Source, O: Sink, E: Sink, D: Disk>(
     alloc: Global,
     words: &CdcWords,
     operands: &Operands,
-    stamp: &Stamp,
-    quiet: bool,
+    context: &Context<'_>,
     streams: &mut Streams<I, O, E, D>,
 ) -> Result<u8, Fault>
-    requires moment { IsMoment stamp.now.moment }
     ensures loans { SameLoans streams.old streams.new }
-    ensures run { RunsOperands (hushed None quiet (locking (cdc_change words.now stamp.now))) (words_in operands.now)
+    ensures run { RunsOperands (hushed None context.now.quiet (locking (cdc_change words.now context.now.stamp.now)))
+        (words_in operands.now)
         result (setting I.Source O.Sink E.Sink D.Disk streams.old) (setting I.Source O.Sink E.Sink D.Disk streams.new) }
 {
+    let stamp = context.stamp;
     let change = Cdc { words, stamp };
-    run_ordinary(alloc, Locking { change }, operands, quiet, streams)
+    run_ordinary(alloc, Locking { change }, operands, context, streams)
 }
 
 // delta, whose operand is one name
@@ -331,20 +330,20 @@ fn run_delta<I: Source, O: Sink, E: Sink, D: Disk>(
     alloc: Global,
     words: &DeltaWords,
     name: &Name,
-    stamp: &Stamp,
-    quiet: bool,
+    context: &Context<'_>,
     streams: &mut Streams<I, O, E, D>,
 ) -> Result<u8, Fault>
-    requires moment { IsMoment stamp.now.moment }
     ensures loans { SameLoans streams.old streams.new }
-    ensures run { RunsOperands (hushed None quiet (locking (delta_change words.now stamp.now))) (name.now ∷ []) result
+    ensures run { RunsOperands (hushed None context.now.quiet (locking (delta_change words.now context.now.stamp.now)))
+        (name.now ∷ []) result
         (setting I.Source O.Sink E.Sink D.Disk streams.old) (setting I.Source O.Sink E.Sink D.Disk streams.new) }
 {
+    let stamp = context.stamp;
     let change = Delta { words, stamp };
     let delta = Ordinary {
         utility: Locking { change },
     };
-    if quiet {
+    if context.quiet {
         run_operand(alloc, &Dropping { utility: &delta }, name.bytes(), streams)
     } else {
         run_operand(alloc, &delta, name.bytes(), streams)
@@ -356,18 +355,18 @@ fn run_freed<I: Source, O: Sink, E: Sink, D: Disk>(
     alloc: Global,
     command: &Command,
     freed: &NameSet,
-    quiet: bool,
+    context: &Context<'_>,
     streams: &mut Streams<I, O, E, D>,
 ) -> Result<u8, Fault>
     requires { group_use command.now ≡ Some uses.Finishes }
     ensures loans { SameLoans streams.old streams.new }
-    ensures run { RunsOperands (hushed None quiet (recover_action (freed_by (names_in freed.now))))
+    ensures run { RunsOperands (hushed None context.now.quiet (recover_action (freed_by (names_in freed.now))))
         (operands_of command.now) result (setting I.Source O.Sink E.Sink D.Disk streams.old)
         (setting I.Source O.Sink E.Sink D.Disk streams.new) }
 {
     match command {
         Command::Recover(operands) => {
-            run_ordinary(alloc, Recover { freed }, operands, quiet, streams)
+            run_ordinary(alloc, Recover { freed }, operands, context, streams)
         }
         _ => unreachable!(),
     }
@@ -377,128 +376,114 @@ fn run_freed<I: Source, O: Sink, E: Sink, D: Disk>(
 fn run_single<I: Source, O: Sink, E: Sink, D: Disk>(
     alloc: Global,
     command: &Command,
-    stamp: &Stamp,
-    place: &Line,
-    quiet: bool,
+    context: &Context<'_>,
     streams: &mut Streams<I, O, E, D>,
 ) -> Result<u8, Fault>
     requires single { list_in command.now ≡ None }
     requires operands { group_use command.now ≡ None }
     requires values { HasValidValues command.now }
-    requires moment { IsMoment stamp.now.moment }
     ensures loans { SameLoans streams.old streams.new }
-    ensures run { RunsCommand (val_words_of command.now) (action_of (caller_by quiet stamp.now place.now) command.now)
+    ensures run { RunsCommand (val_words_of command.now) (action_of (caller_in context.now) command.now)
         (operands_of command.now) result
         (setting I.Source O.Sink E.Sink D.Disk streams.old) (setting I.Source O.Sink E.Sink D.Disk streams.new) }
 {
     match command {
-        Command::Admin(words, operands) => {
-            run_admin(alloc, words, operands, stamp, quiet, streams)
-        }
-        Command::Get(words, operands) => {
-            run_get(alloc, words, operands, stamp, place, quiet, streams)
-        }
-        Command::Delta(words, name) => run_delta(alloc, words, name, stamp, quiet, streams),
-        Command::Unget(words, operands) => {
-            run_unget(alloc, words, operands, stamp, quiet, streams)
-        }
+        Command::Admin(words, operands) => { run_admin(alloc, words, operands, context, streams) }
+        Command::Get(words, operands) => { run_get(alloc, words, operands, context, streams) }
+        Command::Delta(words, name) => run_delta(alloc, words, name, context, streams),
+        Command::Unget(words, operands) => { run_unget(alloc, words, operands, context, streams) }
         Command::Sact(operands) => {
             let heading = has_heading(operands);
-            run_ordinary(alloc, Sact { heading }, operands, quiet, streams)
+            run_ordinary(alloc, Sact { heading }, operands, context, streams)
         }
-        Command::Tell(operands) => run_pending(alloc, false, operands, quiet, streams),
-        Command::Check(operands) => run_pending(alloc, true, operands, quiet, streams),
+        Command::Tell(operands) => run_pending(alloc, false, operands, context, streams),
+        Command::Check(operands) => run_pending(alloc, true, operands, context, streams),
         Command::Rmdel(sid, operands) => {
+            let stamp = context.stamp;
             let change = Rmdel { sid, stamp };
-            run_ordinary(alloc, Locking { change }, operands, quiet, streams)
+            run_ordinary(alloc, Locking { change }, operands, context, streams)
         }
-        Command::Cdc(words, operands) => run_cdc(alloc, words, operands, stamp, quiet, streams),
+        Command::Cdc(words, operands) => run_cdc(alloc, words, operands, context, streams),
         Command::Prs(words, operands) => {
-            run_ordinary(alloc, Prs { words, place }, operands, quiet, streams)
+            let place = context.place;
+            run_ordinary(alloc, Prs { words, place }, operands, context, streams)
         }
         Command::What(first, operands) => {
-            run_list(alloc, &What { first: *first }, operands, quiet, streams)
+            run_list(alloc, &What { first: *first }, operands, context, streams)
         }
-        Command::Import(operands) => run_import(alloc, operands, quiet, streams),
+        Command::Import(operands) => run_import(alloc, operands, context, streams),
         Command::Val(words) => run_val(alloc, words, streams),
         Command::Recover(_) | Command::Group | Command::Batch | Command::Soak(_) => unreachable!(),
     }
-}
-
-// the same over streams that are lent one by one
-fn run_lent<I: Source, O: Sink, E: Sink, D: Disk>(
-    alloc: Global,
-    command: &Command,
-    stamp: &Stamp,
-    place: &Line,
-    quiet: bool,
-    input: &mut I,
-    out: &mut O,
-    err: &mut E,
-    disk: &mut D,
-) -> Result<u8, Fault>
-    requires single { list_in command.now ≡ None }
-    requires operands { group_use command.now ≡ None }
-    requires values { HasValidValues command.now }
-    requires moment { IsMoment stamp.now.moment }
-    ensures { RunsCommand (val_words_of command.now) (action_of (caller_by quiet stamp.now place.now) command.now)
-        (operands_of command.now) result
-        (setting_of I.Source O.Sink E.Sink D.Disk input.old out.old err.old disk.old)
-        (setting_of I.Source O.Sink E.Sink D.Disk input.new out.new err.new disk.new) }
-{
-    let mut streams = Streams {
-        input,
-        out,
-        err,
-        disk,
-    };
-    run_single(alloc, command, stamp, place, quiet, &mut streams)
 }
 
 // finishes a group that is pending, and then makes the steps of the operands of a command
 fn run_finishing<I: Source, O: Sink, E: Sink, D: Disk>(
     alloc: Global,
     command: &Command,
-    stamp: &Stamp,
-    place: &Line,
-    quiet: bool,
+    context: &Context<'_>,
     streams: &mut Streams<I, O, E, D>,
 ) -> Result<u8, Fault>
     requires finishes { group_use command.now ≡ Some uses.Finishes }
     requires values { HasValidValues command.now }
-    requires moment { IsMoment stamp.now.moment }
     ensures loans { SameLoans streams.old streams.new }
-    ensures run { RunsAlone (caller_by quiet stamp.now place.now) command.now result
+    ensures run { RunsAlone (caller_in context.now) command.now result
         (setting I.Source O.Sink E.Sink D.Disk streams.old) (setting I.Source O.Sink E.Sink D.Disk streams.new) }
-    ensures leaves { LeavesAlone (caller_by quiet stamp.now place.now) command.now result
+    ensures leaves { LeavesAlone (caller_in context.now) command.now result
         (setting I.Source O.Sink E.Sink D.Disk streams.old) (setting I.Source O.Sink E.Sink D.Disk streams.new) }
 {
     let mut freed = BTreeSet::new(alloc);
-    match finish(alloc, streams, &mut freed) {
-        Ok(_) => run_freed(alloc, command, &freed, quiet, streams),
-        Err(fault) => Err(fault),
+    finish(alloc, streams, &mut freed)?;
+    run_freed(alloc, command, &freed, context, streams)
+}
+
+// does a command that is no list of commands; where it is quiet the output of its operands is dropped
+fn run_command<I: Source, O: Sink, E: Sink, D: Disk>(
+    alloc: Global,
+    command: &Command,
+    context: &Context<'_>,
+    streams: &mut Streams<I, O, E, D>,
+) -> Result<u8, Fault>
+    requires single { list_in command.now ≡ None }
+    requires values { HasValidValues command.now }
+    ensures loans { SameLoans streams.old streams.new }
+    ensures run { RunsAlone (caller_in context.now) command.now result
+        (setting I.Source O.Sink E.Sink D.Disk streams.old)
+        (setting I.Source O.Sink E.Sink D.Disk streams.new) }
+    ensures leaves { LeavesAlone (caller_in context.now) command.now result
+        (setting I.Source O.Sink E.Sink D.Disk streams.old)
+        (setting I.Source O.Sink E.Sink D.Disk streams.new) }
+{
+    match group_use(command) {
+        Some(GroupUse::Makes) => run_group(
+            alloc,
+            context.stamp,
+            streams.input,
+            streams.out,
+            streams.err,
+            streams.disk,
+        ),
+        Some(GroupUse::Finishes) => run_finishing(alloc, command, context, streams),
+        None => run_single(alloc, command, context, streams),
     }
 }
 
 // the same over streams that are lent one by one
-fn run_finishing_lent<I: Source, O: Sink, E: Sink, D: Disk>(
+pub fn run_alone<I: Source, O: Sink, E: Sink, D: Disk>(
     alloc: Global,
     command: &Command,
-    stamp: &Stamp,
-    place: &Line,
-    quiet: bool,
+    context: &Context<'_>,
     input: &mut I,
     out: &mut O,
     err: &mut E,
     disk: &mut D,
 ) -> Result<u8, Fault>
-    requires finishes { group_use command.now ≡ Some uses.Finishes }
+    requires single { list_in command.now ≡ None }
     requires values { HasValidValues command.now }
-    requires moment { IsMoment stamp.now.moment }
-    ensures run { RunsAlone (caller_by quiet stamp.now place.now) command.now result
+    ensures run { RunsAlone (caller_in context.now) command.now result
         (setting_of I.Source O.Sink E.Sink D.Disk input.old out.old err.old disk.old)
         (setting_of I.Source O.Sink E.Sink D.Disk input.new out.new err.new disk.new) }
-    ensures leaves { LeavesAlone (caller_by quiet stamp.now place.now) command.now result
+    ensures leaves { LeavesAlone (caller_in context.now) command.now result
         (setting_of I.Source O.Sink E.Sink D.Disk input.old out.old err.old disk.old)
         (setting_of I.Source O.Sink E.Sink D.Disk input.new out.new err.new disk.new) }
 {
@@ -508,63 +493,31 @@ fn run_finishing_lent<I: Source, O: Sink, E: Sink, D: Disk>(
         err,
         disk,
     };
-    run_finishing(alloc, command, stamp, place, quiet, &mut streams)
-}
-
-// does a command that is no list of commands; where it is quiet the output of its operands is dropped
-pub fn run_alone<I: Source, O: Sink, E: Sink, D: Disk>(
-    alloc: Global,
-    command: &Command,
-    stamp: &Stamp,
-    place: &Line,
-    quiet: bool,
-    input: &mut I,
-    out: &mut O,
-    err: &mut E,
-    disk: &mut D,
-) -> Result<u8, Fault>
-    requires single { list_in command.now ≡ None }
-    requires values { HasValidValues command.now }
-    requires moment { IsMoment stamp.now.moment }
-    ensures run { RunsAlone (caller_by quiet stamp.now place.now) command.now result
-        (setting_of I.Source O.Sink E.Sink D.Disk input.old out.old err.old disk.old)
-        (setting_of I.Source O.Sink E.Sink D.Disk input.new out.new err.new disk.new) }
-    ensures leaves { LeavesAlone (caller_by quiet stamp.now place.now) command.now result
-        (setting_of I.Source O.Sink E.Sink D.Disk input.old out.old err.old disk.old)
-        (setting_of I.Source O.Sink E.Sink D.Disk input.new out.new err.new disk.new) }
-{
-    match group_use(command) {
-        Some(GroupUse::Makes) => run_group(alloc, stamp, input, out, err, disk),
-        Some(GroupUse::Finishes) => {
-            run_finishing_lent(alloc, command, stamp, place, quiet, input, out, err, disk)
-        }
-        None => run_lent(alloc, command, stamp, place, quiet, input, out, err, disk),
-    }
+    run_command(alloc, command, context, &mut streams)
 }
 
 // does a command: a list of commands, or a single one
 fn run_meant<I: Source, O: Sink, E: Sink, D: Disk>(
     alloc: Global,
     command: &Command,
-    stamp: &Stamp,
-    place: &Line,
+    context: &Context<'_>,
     input: &mut I,
     out: &mut O,
     err: &mut E,
     disk: &mut D,
 ) -> Result<u8, Fault>
     requires values { HasValidValues command.now }
-    requires moment { IsMoment stamp.now.moment }
-    ensures run { RunsMeant (caller stamp.now place.now) (Ok command.now) result
+    ensures run { RunsMeant (caller_in context.now) (Ok command.now) result
         (setting_of I.Source O.Sink E.Sink D.Disk input.old out.old err.old disk.old)
         (setting_of I.Source O.Sink E.Sink D.Disk input.new out.new err.new disk.new) }
-    ensures leaves { LeavesMeant (caller stamp.now place.now) command.now result
+    ensures leaves { LeavesMeant (caller_in context.now) command.now result
         (setting_of I.Source O.Sink E.Sink D.Disk input.old out.old err.old disk.old)
         (setting_of I.Source O.Sink E.Sink D.Disk input.new out.new err.new disk.new) }
-    ensures input { LeavesInput (caller stamp.now place.now) command.now result
+    ensures input { LeavesInput (caller_in context.now) command.now result
         (setting_of I.Source O.Sink E.Sink D.Disk input.old out.old err.old disk.old)
         (setting_of I.Source O.Sink E.Sink D.Disk input.new out.new err.new disk.new) }
 {
+    let place = context.place;
     match list_in(command) {
         Some(CommandList::Batch) => {
             let quiet = false;
@@ -574,7 +527,7 @@ fn run_meant<I: Source, O: Sink, E: Sink, D: Disk>(
             let quiet = true;
             run_soak(alloc, &Singles { place, quiet }, number, out, err, disk)
         }
-        None => run_alone(alloc, command, stamp, place, false, input, out, err, disk),
+        None => run_alone(alloc, command, context, input, out, err, disk),
     }
 }
 
@@ -582,21 +535,19 @@ fn run_meant<I: Source, O: Sink, E: Sink, D: Disk>(
 fn run_next<O: Sink, E: Sink, D: Disk>(
     alloc: Global,
     next: &Result<Command, Usage>,
-    stamp: &Stamp,
-    place: &Line,
+    context: &Context<'_>,
     out: &mut O,
     err: &mut E,
     disk: &mut D,
 ) -> Result<u8, Fault>
     requires values { IfOk next.now HasValidValues }
-    requires moment { IsMoment stamp.now.moment }
-    ensures { RunsMeant (caller stamp.now place.now) next.now result
+    ensures { RunsMeant (caller_in context.now) next.now result
         (quiet O.Sink E.Sink D.Disk out.old err.old disk.old) (quiet O.Sink E.Sink D.Disk out.new err.new disk.new) }
 {
     match next {
         Ok(command) => {
             let mut input = NoInput;
-            run_meant(alloc, command, stamp, place, &mut input, out, err, disk)
+            run_meant(alloc, command, context, &mut input, out, err, disk)
         }
         Err(usage) => match write_usage(usage, err) {
             Ok(()) => Ok(2),
@@ -610,8 +561,7 @@ fn run_two<I: Source, O: Sink, E: Sink, D: Disk>(
     alloc: Global,
     first: &Command,
     next: &Result<Command, Usage>,
-    stamp: &Stamp,
-    place: &Line,
+    context: &Context<'_>,
     input: &mut I,
     out: &mut O,
     err: &mut E,
@@ -619,52 +569,44 @@ fn run_two<I: Source, O: Sink, E: Sink, D: Disk>(
 ) -> Result<u8, Fault>
     requires first { HasValidValues first.now }
     requires next { IfOk next.now HasValidValues }
-    requires moment { IsMoment stamp.now.moment }
-    ensures run { RunsAsked (caller stamp.now place.now) (Ok (ask.Two first.now next.now)) result
+    ensures run { RunsAsked (caller_in context.now) (Ok (ask.Two first.now next.now)) result
         (setting_of I.Source O.Sink E.Sink D.Disk input.old out.old err.old disk.old)
         (setting_of I.Source O.Sink E.Sink D.Disk input.new out.new err.new disk.new) }
-    ensures input { LeavesInput (caller stamp.now place.now) first.now result
+    ensures input { LeavesInput (caller_in context.now) first.now result
         (setting_of I.Source O.Sink E.Sink D.Disk input.old out.old err.old disk.old)
         (setting_of I.Source O.Sink E.Sink D.Disk input.new out.new err.new disk.new) }
 {
-    let status = match run_meant(alloc, first, stamp, place, input, out, err, disk) {
-        Ok(status) => status,
-        Err(fault) => return Err(fault),
-    };
+    let status = run_meant(alloc, first, context, input, out, err, disk)?;
     if status != 0 {
         return Ok(status);
     }
-    run_next(alloc, next, stamp, place, out, err, disk)
+    run_next(alloc, next, context, out, err, disk)
 }
 
 // does what words ask for: a command, or two
 fn run_asked<I: Source, O: Sink, E: Sink, D: Disk>(
     alloc: Global,
     asked: &Asked,
-    stamp: &Stamp,
-    place: &Line,
+    context: &Context<'_>,
     input: &mut I,
     out: &mut O,
     err: &mut E,
     disk: &mut D,
 ) -> Result<u8, Fault>
     requires values { HasValidCommands asked.now }
-    requires moment { IsMoment stamp.now.moment }
-    ensures run { RunsAsked (caller stamp.now place.now) (Ok asked.now) result
+    ensures run { RunsAsked (caller_in context.now) (Ok asked.now) result
         (setting_of I.Source O.Sink E.Sink D.Disk input.old out.old err.old disk.old)
         (setting_of I.Source O.Sink E.Sink D.Disk input.new out.new err.new disk.new) }
-    ensures leaves { LeavesAsked (caller stamp.now place.now) asked.now result
+    ensures leaves { LeavesAsked (caller_in context.now) asked.now result
         (setting_of I.Source O.Sink E.Sink D.Disk input.old out.old err.old disk.old)
         (setting_of I.Source O.Sink E.Sink D.Disk input.new out.new err.new disk.new) }
-    ensures input { LeavesAskedInput (caller stamp.now place.now) asked.now result
+    ensures input { LeavesAskedInput (caller_in context.now) asked.now result
         (setting_of I.Source O.Sink E.Sink D.Disk input.old out.old err.old disk.old)
         (setting_of I.Source O.Sink E.Sink D.Disk input.new out.new err.new disk.new) }
 {
     match asked {
-        Asked::One(command) => run_meant(alloc, command, stamp, place, input, out, err, disk),
-        Asked::Two(first, next) => {
-            run_two(alloc, first, next, stamp, place, input, out, err, disk)
-        }
+        Asked::One(command) => run_meant(alloc, command, context, input, out, err, disk),
+        Asked::Two(first, next) => { run_two(alloc, first, next, context, input, out, err, disk) }
     }
 }
 
@@ -721,7 +663,15 @@ pub fn run<I: Source, O: Sink, E: Sink, D: Disk>(
         (counts (I.faults input.new) (O.faults out.new) (E.faults err.new) (D.faults disk.new)) }
 {
     match read_asked(alloc, words) {
-        Ok(asked) => ended(run_asked(alloc, &asked, stamp, place, input, out, err, disk)),
+        Ok(asked) => {
+            let quiet = false;
+            let context = Context {
+                stamp,
+                place,
+                quiet,
+            };
+            ended(run_asked(alloc, &asked, &context, input, out, err, disk))
+        }
         Err(WordsFault::Usage(usage)) => match write_usage(&usage, err) {
             Ok(()) => Answer::Finished { status: 2 },
             Err(_) => Answer::WriteFault,

@@ -4,6 +4,7 @@
 mod answers;
 mod asking;
 mod commands;
+mod context;
 pub mod laws;
 mod messages;
 mod no_input;

@@ -1,17 +1,16 @@
 ghost use Rattle.std.specs.Prelude.{◌≡◌, true, Ok};
-ghost use Rattle.sccs_sid.specs.Moment.{IsMoment};
 ghost use Rattle.sccs_steps.specs.Settings.{setting_of};
 ghost use Rattle.sccs_words.specs.Meaning.{meaning};
 ghost use Rattle.sccs_batch.specs.BatchText.{is_single};
 ghost use Rattle.sccs_top.specs.CommandLaws.{command_might, command_takes};
-ghost use Rattle.sccs_top.specs.Runs.{BegunOf, FitsEntry, RunsWords, WholeOf, caller_by, entry_command};
+ghost use Rattle.sccs_top.specs.Runs.{BegunOf, FitsEntry, RunsWords, WholeOf, caller_by, caller_in, entry_command};
 
 use crate::commands::run_alone;
+use crate::context::Context;
 use crate::messages::write_usage;
 use sccs_base::{Line, Sink, Source, SteadySource, Words};
 use sccs_batch::{BatchEntry, Commands};
 use sccs_disk::Disk;
-use sccs_sid::Stamp;
 use sccs_steps::Fault;
 use sccs_words::{WordsFault, read_words};
 use std::alloc::Global;
@@ -20,22 +19,19 @@ use std::alloc::Global;
 fn run_words<I: Source, O: Sink, E: Sink, D: Disk>(
     alloc: Global,
     words: &Words,
-    stamp: &Stamp,
-    place: &Line,
-    quiet: bool,
+    context: &Context<'_>,
     input: &mut I,
     out: &mut O,
     err: &mut E,
     disk: &mut D,
 ) -> Result<u8, Fault>
-    requires moment { IsMoment stamp.now.moment }
     requires single { is_single words.now ≡ true }
-    ensures { RunsWords (caller_by quiet stamp.now place.now) (meaning words.now) result
+    ensures { RunsWords (caller_in context.now) (meaning words.now) result
         (setting_of I.Source O.Sink E.Sink D.Disk input.old out.old err.old disk.old)
         (setting_of I.Source O.Sink E.Sink D.Disk input.new out.new err.new disk.new) }
 {
     match read_words(alloc, words) {
-        Ok(command) => run_alone(alloc, &command, stamp, place, quiet, input, out, err, disk),
+        Ok(command) => run_alone(alloc, &command, context, input, out, err, disk),
         Err(WordsFault::Usage(usage)) => match write_usage(&usage, err) {
             Ok(()) => Ok(2),
             Err(_) => Err(Fault::WriteFault),
@@ -77,16 +73,11 @@ impl<'a> Commands for Singles<'a> {
         let Ok(mut input) = SteadySource::new(alloc, entry.input.bytes()) else {
             return Err(Fault::Memory);
         };
-        run_words(
-            alloc,
-            &entry.words,
-            &entry.stamp,
-            self.place,
-            self.quiet,
-            &mut input,
-            out,
-            err,
-            disk,
-        )
+        let context = Context {
+            stamp: &entry.stamp,
+            place: self.place,
+            quiet: self.quiet,
+        };
+        run_words(alloc, &entry.words, &context, &mut input, out, err, disk)
     }
 }

@@ -7,27 +7,32 @@ use Rattle.sccs_delta.specs.DeltaStep.{delta_change}
 use Rattle.sccs_top.specs.Runs.{hushed}
 use Rattle.sccs_top.proofs.commands.run_delta.Goals as goal
 
-pub returns-then-quiet-clause-run : goal.returns-then-quiet-clause-run
-returns-then-quiet-clause-run g c =
-    subst (λ quiet. RunsOperands (hushed None quiet (locking (delta_change c.args.words.now c.args.stamp.now)))
+pub returns-then-context-clause-run : goal.returns-then-context-clause-run
+returns-then-context-clause-run g c =
+    subst (λ quiet. RunsOperands
+    (hushed None quiet (locking (delta_change c.args.words.now c.args.context.now.stamp.now)))
     (c.args.name.now ∷ []) c.run_operand.result (setting g.I.Source g.O.Sink g.E.Sink g.D.Disk c.args.streams.now)
-    (setting g.I.Source g.O.Sink g.E.Sink g.D.Disk c.run_operand.new.streams)) (sym c.if-quiet.true)
-    (lone_operand (hushed None true (locking (delta_change c.args.words.now c.args.stamp.now))) c.args.name.now _ _ _
+    (setting g.I.Source g.O.Sink g.E.Sink g.D.Disk c.run_operand.new.streams)) (sym c.if-context.true)
+    (lone_operand (hushed None true (locking (delta_change c.args.words.now c.args.context.now.stamp.now)))
+    c.args.name.now _ _ _
     (subst (λ (n : List ℕ). RunsOperand
-    (hushed None true (locking (delta_change c.args.words.now c.args.stamp.now))) n c.run_operand.result
+    (hushed None true (locking (delta_change c.args.words.now c.args.context.now.stamp.now))) n c.run_operand.result
     (setting g.I.Source g.O.Sink g.E.Sink g.D.Disk c.args.streams.now)
     (setting g.I.Source g.O.Sink g.E.Sink g.D.Disk c.run_operand.new.streams)) c.bytes.ensures.value
     c.run_operand.ensures.run))
 
-pub returns-else-quiet-clause-run : goal.returns-else-quiet-clause-run
-returns-else-quiet-clause-run g c =
-    subst (λ quiet. RunsOperands (hushed None quiet (locking (delta_change c.args.words.now c.args.stamp.now)))
-    (c.args.name.now ∷ []) c.run_operand-else-quiet.result (setting g.I.Source g.O.Sink g.E.Sink g.D.Disk
-    c.args.streams.now) (setting g.I.Source g.O.Sink g.E.Sink g.D.Disk c.run_operand-else-quiet.new.streams))
-    (sym c.if-quiet.false)
-    (lone_operand (hushed None false (locking (delta_change c.args.words.now c.args.stamp.now))) c.args.name.now _ _ _
+pub returns-else-context-clause-run : goal.returns-else-context-clause-run
+returns-else-context-clause-run g c =
+    subst (λ quiet. RunsOperands
+    (hushed None quiet (locking (delta_change c.args.words.now c.args.context.now.stamp.now)))
+    (c.args.name.now ∷ []) c.run_operand-else-context.result (setting g.I.Source g.O.Sink g.E.Sink g.D.Disk
+    c.args.streams.now) (setting g.I.Source g.O.Sink g.E.Sink g.D.Disk c.run_operand-else-context.new.streams))
+    (sym c.if-context.false)
+    (lone_operand (hushed None false (locking (delta_change c.args.words.now c.args.context.now.stamp.now)))
+    c.args.name.now _ _ _
     (subst (λ (n : List ℕ). RunsOperand
-    (hushed None false (locking (delta_change c.args.words.now c.args.stamp.now))) n c.run_operand-else-quiet.result
+    (hushed None false (locking (delta_change c.args.words.now c.args.context.now.stamp.now))) n
+    c.run_operand-else-context.result
     (setting g.I.Source g.O.Sink g.E.Sink g.D.Disk c.args.streams.now)
-    (setting g.I.Source g.O.Sink g.E.Sink g.D.Disk c.run_operand-else-quiet.new.streams))
-    c.bytes-else-quiet.ensures.value c.run_operand-else-quiet.ensures.run))
+    (setting g.I.Source g.O.Sink g.E.Sink g.D.Disk c.run_operand-else-context.new.streams))
+    c.bytes-else-context.ensures.value c.run_operand-else-context.ensures.run))

@@ -9,7 +9,7 @@ use Rattle.sccs_top.proofs.commands.run_freed.Goals as goal
 
 pub returns-clause-run : goal.returns-clause-run
 returns-clause-run g c =
-    subst (λ (it : Command). RunsOperands (hushed None c.args.quiet
+    subst (λ (it : Command). RunsOperands (hushed None c.args.context.now.quiet
     (recover_action (freed_by (names_in c.args.freed.now)))) (operands_of it) c.run_ordinary.result
     (setting g.I.Source g.O.Sink g.E.Sink g.D.Disk c.args.streams.now)
     (setting g.I.Source g.O.Sink g.E.Sink g.D.Disk c.run_ordinary.new.streams)) (sym c.in-Recover.is)

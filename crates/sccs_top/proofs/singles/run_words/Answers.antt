@@ -9,20 +9,20 @@ use Rattle.sccs_words.specs.declared.commands.WordsFault.{WordsFault}
 use Rattle.sccs_steps.specs.Settings.{setting_of}
 use Rattle.sccs_steps.specs.declared.faults.Fault.TheVariants as ends
 use Rattle.sccs_top.specs.Messages.{usage_line}
-use Rattle.sccs_top.specs.Runs.{caller_by, list_in}
+use Rattle.sccs_top.specs.Runs.{caller_in, list_in}
 use Rattle.sccs_top.proofs.RunLaws.{said_causes, unsaid_causes, words_run, words_said}
 use Rattle.sccs_top.proofs.SingleWords.{words_single}
 use Rattle.sccs_top.proofs.singles.run_words.Goals as goal
 
 pub returns-in-Ok : goal.returns-in-Ok
-returns-in-Ok g c = words_run (caller_by c.args.quiet c.args.stamp.now c.args.place.now) (meaning c.args.words.now)
+returns-in-Ok g c = words_run (caller_in c.args.context.now) (meaning c.args.words.now)
     c.in-Ok.command c.run_alone.result (setting_of g.I.Source g.O.Sink g.E.Sink g.D.Disk c.args.input.now c.args.out.now
     c.args.err.now c.args.disk.now) (setting_of g.I.Source g.O.Sink g.E.Sink g.D.Disk c.run_alone.new.input
     c.run_alone.new.out c.run_alone.new.err c.run_alone.new.disk) c.in-Ok.ensures.value c.run_alone.ensures.run
 
 pub returns-in-Ok-write_usage : goal.returns-in-Ok-write_usage
 returns-in-Ok-write_usage g c =
-    words_said (caller_by c.args.quiet c.args.stamp.now c.args.place.now) (meaning c.args.words.now)
+    words_said (caller_in c.args.context.now) (meaning c.args.words.now)
     c.in-Err-Usage.usage (Ok 2) (setting_of g.I.Source g.O.Sink g.E.Sink g.D.Disk c.args.input.now c.args.out.now
     c.args.err.now c.args.disk.now) (setting_of g.I.Source g.O.Sink g.E.Sink g.D.Disk c.args.input.now
     c.args.out.now c.write_usage.new.out c.args.disk.now) (subst (λ (fault : WordsFault). GivesCommand (Err fault)
@@ -36,7 +36,7 @@ returns-in-Ok-write_usage g c =
 
 pub returns-in-Err : goal.returns-in-Err
 returns-in-Err g c =
-    words_said (caller_by c.args.quiet c.args.stamp.now c.args.place.now) (meaning c.args.words.now)
+    words_said (caller_in c.args.context.now) (meaning c.args.words.now)
     c.in-Err-Usage.usage (Err ends.WriteFault) (setting_of g.I.Source g.O.Sink g.E.Sink g.D.Disk c.args.input.now
     c.args.out.now c.args.err.now c.args.disk.now) (setting_of g.I.Source g.O.Sink g.E.Sink g.D.Disk
     c.args.input.now c.args.out.now c.write_usage.new.out c.args.disk.now)
